@@ -14,7 +14,7 @@ use Rattle.activation_relation.specs.Changes.{awaiting}
 use Rattle.activation_relation.specs.Changes.{StandsOver}
 use Rattle.activation_relation.specs.Frames.{FramesStand, IsLaid, frame_stores, stored}
 use Rattle.activation_relation.specs.FrameLaws.{AreWords}
-use Rattle.activation_relation.specs.Points.{AreFew, AreOver, Stands, Surroundings}
+use Rattle.activation_relation.specs.Points.{AreFew, AreOver, IsEarly, Stands, Surroundings}
 use Rattle.activation_relation.specs.ServiceLaws.{IsLayerOf}
 
 -- a block that is entered has its place above all others, and finds on the stacks what its arguments left there
@@ -53,21 +53,21 @@ pub record PointsGo : Type 0 where
       drop count p.control.layers ≡ φ ∷ φs →
       StandsOver φ.entries p.control.entries × StandsOver φ.edits p.control.edits
 
--- how many serials there are beside acts
+-- how many serials there are
 pub record SerialsCount : Type 0 where
   pub acted : (w : Surroundings) (p : Point) (line : ℕ) → AreFew w p → AreFew w (with_act counted (with_line line p))
-  -- an act behind which so many serials came, or before which, pays for them
+  -- so many may come where an act was left
   pub made :
-      (w : Surroundings) (p q : Point) → AreFew w p → q.state.serials ≤ p.state.serials + w.serials →
-      p.state.world.acts < q.state.world.acts → AreFew w q
+      (w : Surroundings) (p q : Point) → IsEarly w p → q.state.serials ≤ p.state.serials + w.serials →
+      p.state.world.acts < w.acts → AreFew w q
   pub left : (w : Surroundings) (p : Point) (kept : List S.Entry) → AreFew w p → AreFew w (popped kept p)
   pub unwound :
       (w : Surroundings) (p : Point) (count : ℕ) (φ : Layer) (kept : List S.Entry) → AreFew w p →
       AreFew w (unwound count kept φ p)
-  -- the next one fits 64 bits if it does where all acts are made
+  -- the next ones fit 64 bits, however many acts were made
   pub small :
-      (w : Surroundings) (p : Point) → Stands w p → AreFew w p → w.serials * w.acts + 1 < 2 ^ 64 →
-      p.state.serials + 1 < 2 ^ 64
+      (w : Surroundings) (p : Point) (n : ℕ) → AreFew w p → w.serials + n < 2 ^ 40 →
+      p.state.serials + n < 2 ^ 64
 
 pub record MemoriesGo : Type 0 where
   -- the stores of a block's beginning leave a memory in which its frame stands with all others, and all that is stored

@@ -1,5 +1,5 @@
 -- What holds at a point, whatever the machine, and a machine that has come there.
-use Rattle.std.specs.Prelude.{ℕ, ◌+◌, ◌*◌, ◌<◌, ◌≤◌, ◌≡◌, List, [], ◌∷◌, length, ⊤}
+use Rattle.std.specs.Prelude.{ℕ, ◌+◌, ◌-◌, ◌*◌, ◌^◌, ◌<◌, ◌≤◌, ◌≡◌, List, [], ◌∷◌, length, ⊤}
 use Rattle.rv_meaning.specs.Machine as V
 use Rattle.rv_meaning.specs.Machine.{IsValidBase}
 use Rattle.pli_meaning.specs.declared.outcome.End.TheVariants.{Running}
@@ -16,7 +16,7 @@ use Rattle.activation_relation.specs.Owned.{AreOwned}
 use Rattle.activation_relation.specs.Frames.{FramesStand, AreLaid, frame_under, upper_top}
 
 -- around code: the parts of memory, where symbols and on-units stand, how many acts are allowed, and how many serials
--- may come for each
+-- may come between two
 pub record Surroundings : Type 0 where
   pub parts : MemoryParts
   pub links : Links
@@ -24,9 +24,17 @@ pub record Surroundings : Type 0 where
   pub acts : ℕ
   pub serials : ℕ
 
--- no more serials came than that
+-- so many serials come before the last act of a run below 2^64 instructions at most, whatever its code: an instruction
+-- makes an act or gives a serial, and acts come so often that 2^40 are left
+abbrev pub early_serials : ℕ
+early_serials = 2 ^ 64 - 2 ^ 40
+
+abbrev pub IsEarly : Surroundings → Point → Type 0
+IsEarly w p = p.state.world.acts < w.acts → p.state.serials ≤ early_serials
+
+-- and no more behind it than between two
 abbrev pub AreFew : Surroundings → Point → Type 0
-AreFew w p = p.state.serials ≤ w.serials * p.state.world.acts
+AreFew w p = p.state.serials ≤ early_serials + w.serials
 
 -- ---- the stacks of texts and of places in format lists
 

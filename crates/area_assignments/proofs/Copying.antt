@@ -123,7 +123,8 @@ assigned_comes {k} {labels} {x} {y} {line} left' h {q} {numbers} {i} o acts want
         Goal (Normal tt p.state)
     done p o' since' r =
         record {
-          to = done_owing (statement_closed k labels acts (i + debt) wanted left') debt wanted (omega arith) r tt
+          to = λ early.
+              done_owing (statement_closed k labels acts (i + debt) wanted left') debt wanted (omega arith) r tt
               p.state
               (λ g' at'. goes_here acts wanted g' since' o' at');
         }

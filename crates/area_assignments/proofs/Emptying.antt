@@ -205,7 +205,7 @@ empty_does k labels x line index left' h q numbers c wanted f o paid there =
     subst (λ flow. Comes code 0 g (services_of q') (owing code debt aims) flow)
     (sym (emptied_is around' x h.area.declared serial w.acts q'.state area.some (area_stands h.area o')))
     (record {
-      to = done_owing (statement_closed k labels acts i wanted left') debt wanted (omega arith) r tt
+      to = λ early. done_owing (statement_closed k labels acts i wanted left') debt wanted (omega arith) r tt
           (emptied_point h.area q').state
           (λ g' at''. goes_here acts wanted g' (omega arith) (turned_among serial (λ placed. []) o')
           (λ b. subst (λ y. IsIn w (emptied_point h.area q') numbers y b (g' b)) (omega (arith, n0, n1)) (at'' b)));

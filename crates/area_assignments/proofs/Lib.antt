@@ -2,7 +2,7 @@ mod Answers
 mod Points
 mod AreaCode
 mod Meaning
-mod Emptying
+pub mod Emptying
 mod CopyRuns
-mod Copying
+pub mod Copying
 pub mod Rows

@@ -116,7 +116,8 @@ freeing_comes {k} {labels} {p} {n} {line} left' h {q} {numbers} {i} o a acts wan
         (freed_leaves z area offset g e (sym (ap (λ u. named q.state u based_shape) e) ∙ lives)) l there in
         subst Goal (sym (freed_is around' w.acts area offset g q.state))
         (record {
-          to = done_owing (statement_closed k labels acts (i + debt) wanted left') debt wanted (omega arith) r tt
+          to = λ early.
+              done_owing (statement_closed k labels acts (i + debt) wanted left') debt wanted (omega arith) r tt
               (freed_point area offset q).state
               (λ g' at'. goes_here acts wanted g' (since_of area offset) (freed_among area offset o) at');
         })

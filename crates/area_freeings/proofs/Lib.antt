@@ -3,5 +3,5 @@ mod FreePoints
 mod FreeCode
 mod FreeMeaning
 mod FreeRuns
-mod Freeing
+pub mod Freeing
 pub mod Rows

@@ -18,10 +18,10 @@ use Rattle.pli_coding.specs.SignatureTable.{table_of}
 use Rattle.pli_coding.specs.Statements.{block_held, block_words}
 use Rattle.storage_relation.specs.Versions.{no_constants}
 use Rattle.activation_relation.specs.Layers.{services_of}
-use Rattle.run_steps.specs.Reach.{Comes, never}
+use Rattle.run_steps.specs.Reach.{Comes}
 use Rattle.program_runs.specs.Procedures.{Procedure, procedure_code}
 use Rattle.program_runs.specs.Rows.{row_head}
-use Rattle.program_runs.specs.Starts.{Image, first_family, image_parts, start_of, start_point}
+use Rattle.program_runs.specs.Starts.{Image, first_family, image_parts, start_of, start_point, never_in}
 use Rattle.area_runs.specs.Based.{based_declared, pointer_declared}
 use Rattle.area_runs.specs.Rows.{area_declared, area_spot, based_spot, locate_allocation, locate_label, pointer_spot}
 use Rattle.area_freeings.specs.Freeing.{freeing}
@@ -95,7 +95,7 @@ pub record ReleaseRan : Type 0 where
   pub runs :
       (input first : List ℕ) (acts : ℕ) → acts + 1 < 2 ^ 64 → length first ≡ memory_size →
       Comes (linked_code release_code) 0 (first_family first (services_of (start_point (release_image input acts))))
-      (services_of (start_point (release_image input acts))) never
+      (services_of (start_point (release_image input acts))) (never_in (release_image input acts))
       (run release_program (suc acts) acts (first_state input))
   -- that ends in the second turn, since what is freed lives no longer
   pub ends :

@@ -1,2 +1,3 @@
 mod ClearRuns
 mod ReleaseRuns
+mod FollowRuns

@@ -110,13 +110,14 @@ placing_by k labels n p x line index left' most h acts wanted debt i q numbers o
     (sym (placing_found around' h.turns serial w.acts offset
     (record { capacity = h.area.capacity; placed = at.living.placed }) q.state at.some at.area free))
     (record {
-      to = subst (λ flow. Comes code 0 f (services_of q) (before code owed w.acts (no_more around')) flow)
+      to = λ early. subst (λ flow. Comes code 0 f (services_of q) (before code owed w.acts (no_more around')) flow)
           (sym (locator_is around' serial offset w.acts (points_then serial offset a.points)))
           (record {
-            to = subst (λ flow. Comes code 0 f (services_of q) owed flow)
+            to = λ early. subst (λ flow. Comes code 0 f (services_of q) owed flow)
                 (sym (all_allocated around' w.acts (allocated_state serial offset q.state a.points)))
                 (record {
-                  to = done_owing (statement_closed k labels acts i wanted left') debt wanted (omega (arith, paid)) r tt
+                  to = λ early.
+                      done_owing (statement_closed k labels acts i wanted left') debt wanted (omega (arith, paid)) r tt
                       u.state
                       (λ g' at'. goes_here acts wanted g' since (allocated_among serial offset a.points o)
                       (λ b. subst (λ y. IsIn w u numbers y b (g' b)) end (at' b)));

@@ -308,7 +308,7 @@ goes_by k labels x n source line index left' need most h acts wanted debt i p nu
     subst (λ flow. Comes code c f (services_of p) (owing code debt aims) flow)
     (sym (assigned_found around' p.state a.points.name lives.extent lives.values w.acts z lives.named))
     (record {
-      to = done_owing (statement_closed k labels acts i wanted left') debt wanted paid r tt q.state
+      to = λ early. done_owing (statement_closed k labels acts i wanted left') debt wanted paid r tt q.state
           (λ g' at'. goes_here acts wanted g' more (put_among lives z o')
           (λ b. subst (λ u. IsIn w q (held_after numbers 0 (word z)) u b (g' b)) end (at' b)));
     })
@@ -394,12 +394,13 @@ assign_does k labels x n source line index left' need most h ev p numbers c want
     comes_on w.acts (source' w.acts p'.state) (λ v. put_in k x n line v)
     (comes_on w.acts flow fit
     (comes_map (number_aims k labels y)
-    (before code (before code owed w.acts (λ v. put_in k x n line v)) w.acts fit) flow
+    (before code (before code owed w.acts (λ v. put_in k x n line v)) w.acts fit) refl flow
     (λ c' f' v' z s q.
     subst (Comes code c' f' v' (before code owed w.acts (λ v. put_in k x n line v)))
     (sym (fit_is around' z w.acts s q.0))
     (record {
-      to = stored_goes k labels x n source line index left' need most h acts wanted debt (index + size_in k stmt) c' f'
+      to = λ early.
+          stored_goes k labels x n source line index left' need most h acts wanted debt (index + size_in k stmt) c' f'
           v' z s y (omega arith) refl q.0 q.1 (omega (arith, n2, n3)) (omega (arith, all, most', n0, n1, n2, n3))
           (omega (arith, n0, n1, n2, n3))
           (linked_at (index + size_of one + size_of value') puts (omega (arith, n2)) ls);

@@ -460,9 +460,9 @@ read_by k x n is ends p numbers taken c index f o line l paid there a (Some g) s
     (sym (part_found k.around p.state a.points.name (based_generation lives.extent lives.values) w.acts lives.named
     refl))
     (record {
-      to = subst (λ u. Comes code c f (services_of p) aims (Normal (number_in u) p.state)) (sym lives.value)
+      to = λ early. subst (λ u. Comes code c f (services_of p) aims (Normal (number_in u) p.state)) (sym lives.value)
           (record {
-            to = (
+            to = λ early. (
               lives.wide,
               word_here {x = y} h o (omega arith) refl
                   (reach_moved (omega (arith, size, m)) (omega (arith, size, m)) (reach_then found.reach r)),

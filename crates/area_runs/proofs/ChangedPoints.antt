@@ -380,8 +380,7 @@ follows_among {k} {numbers} {p} s world f o =
       };
       later = later_then k.first p (with_state s p) o.later f.later;
       few =
-          subst (λ (u : _). s.serials ≤ k.call.surroundings.serials * u) (ap (λ (u : _). u.acts) (sym world))
-          (omega (arith, few, same));
+          omega (arith, few, same);
       entries = o.entries;
       others = o.others;
       words = o.words;

@@ -26,7 +26,7 @@ use Rattle.pli_coding.specs.Linking.{place_of}
 use Rattle.pli_coding.specs.Statements.{stmts_code}
 use Rattle.activation_relation.specs.Frames.{lower_end}
 use Rattle.activation_relation.specs.Layers.{services_of}
-use Rattle.activation_relation.specs.Points.{AreFew, Stands}
+use Rattle.activation_relation.specs.Points.{AreFew, IsEarly, Stands}
 use Rattle.activation_relation.specs.Remaining.{Remains}
 use Rattle.activation_relation.proofs.Remaining.{remains_entered, remains_made}
 use Rattle.activation_relation.proofs.Returning.{later_same}
@@ -65,6 +65,7 @@ use Rattle.argument_runs.proofs.CopyPoints.{copied_means, copied_stands}
 use Rattle.argument_runs.proofs.GivenLists.{with_list_stands}
 use Rattle.argument_runs.proofs.ListBeginnings.{listed_stands}
 use Rattle.argument_runs.proofs.ListCalls.{list_calls_return}
+use Rattle.block_runs.proofs.Early.{comes_early}
 
 -- ---- where it is called
 
@@ -77,7 +78,7 @@ pub record Here (g : Option Function) (y : CopyCall) : Type 0 where
   pub wide : is_of_precision 31 y.value ≡ true
   pub words : (n : ℕ) → y.numbers n < 2 ^ 32
   pub each : 1 ≤ y.surroundings.serials
-  pub small' : y.surroundings.serials * y.surroundings.acts + 1 < 2 ^ 64
+  pub small' : y.surroundings.serials + 1 < 2 ^ 40
   pub coded : IsCoded y.callee.procedure y.callee.calling
   pub calls :
       Linked y.surroundings.links y.code y.callee.calling.call
@@ -224,7 +225,7 @@ is_copy {g} {y} h =
       low = h.room.low;
       shape = h.room.shape;
       number = h.room.number;
-      serial = few_small w y.point h.stands h.few h.small';
+      serial = few_small w y.point 1 h.few h.small';
       limit = h.room.limit;
     }
 
@@ -238,9 +239,10 @@ copied_known {g} {y} h =
 -- ---- its first statement
 
 pub first_among :
-    {g : Option Function} {y : CopyCall} (h : Here g y) → (copied_point g y).state.world.acts < y.surroundings.acts →
+    {g : Option Function} {y : CopyCall} (h : Here g y) → IsEarly y.surroundings y.point →
+    (copied_point g y).state.world.acts < y.surroundings.acts →
     IsAmong (copy_block g y) y.numbers (copy_block g y).first
-first_among {g} {y} h less =
+first_among {g} {y} h early less =
     let w = y.surroundings in
     let known = stands_acted y.callee.procedure.head.line (copied_known h).0 (copied_known h).1 less in
     let each = h.each in
@@ -248,7 +250,7 @@ first_among {g} {y} h less =
       stands = known.0;
       image = known.1;
       later = later_same (copy_block g y).first;
-      few = few_made w y.point (copy_block g y).first h.few (omega (arith, each)) (omega arith);
+      few = few_made w y.point (copy_block g y).first early (omega (arith, each)) less;
       entries = refl;
       others = λ n more. refl;
       words = h.words;
@@ -400,7 +402,7 @@ body_goes y callee f b o each few there =
     let inside = l2.inside in
     let flow = M.list k.around x.body y.surroundings.acts k.first.state in
     let acts = k.first.state.world.acts in
-    comes_map (statement_aims k [] acts c.calling.end left_over left_over) (body_aims k.call left_over) flow
+    comes_map (statement_aims k [] acts c.calling.end left_over left_over) (body_aims k.call left_over) refl flow
     (λ c' f' v' r s q. at_end b refl (omega arith) q)
     (λ c' f' v' height label s q. no_jump refl q)
     (λ c' f' v' r s q. q.to)
@@ -451,7 +453,9 @@ copy_runs {y} credits wanted f h callee body_comes paid there gives =
     let c0 = credits + (left_over + size_of (end_of x)) + 2 + size_of (listing_of x) in
     subst (λ flow. Comes y.code credits f (services_of (given_point y)) (behind_aims k wanted) flow)
     (sym (run_means c.around x.head x.body (entry_of None y) w.acts y.point.state callee.kind h.room.shallow))
-    (list_calls_return k (giving_of None y) (M.block_body around' x.head x.body (entry_of None y)) credits left_over
+    (comes_early w refl there
+    (λ early.
+    list_calls_return k (giving_of None y) (M.block_body around' x.head x.body (entry_of None y)) credits left_over
     wanted f (is_giving h)
     (λ g at.
     subst (λ flow. Comes y.code c0 g (services_of start) (body_aims k left_over) flow)
@@ -465,5 +469,5 @@ copy_runs {y} credits wanted f h callee body_comes paid there gives =
     (act_comes (before_closed w.acts next' closed) x.head.line (c0 + size_of copies) 0 g' (copied_known h)
     (h.coded.line, callee.acts, omega (arith, n0, n1, n2, n3, paid)) (front_of one (body ++ tail) l1) at'
     (λ g'' less at''.
-    let o = first_among h less in
-    body_comes (first_begun h o.stands) o g'' at''))))) there gives)
+    let o = first_among h early less in
+    body_comes (first_begun h o.stands) o g'' at''))))) there gives))

@@ -409,8 +409,8 @@ given_goes {k} {c} {source} {φ} {φs} {line} {index} labels left' acts wanted c
     (o.later.layers ∙ h.room.newest) (h.room.words, word_small z wide)
     (front_of (value_given ++ list_given) (calling c) l) there)
     (λ g' there'.
-    comes_map (behind_aims (called_of None x) wanted) aims' flow
-    (λ c1 f1 v1 r t e. record { to = behind_goes z h o (omega (arith, since, more)) e })
+    comes_map (behind_aims (called_of None x) wanted) aims' refl flow
+    (λ c1 f1 v1 r t e. record { to = λ early. behind_goes z h o (omega (arith, since, more)) e })
     (λ c1 f1 v1 height label t e. absurd e)
     (λ c1 f1 v1 r t e. absurd e)
     (copy_runs (y.wanted + size_of (value_given ++ list_given)) wanted g' (here_among z wide h o)
@@ -478,13 +478,13 @@ copy_call_comes k c labels source φ φs line index left' need most more h ev ea
     (comes_on w.acts (V.argument around' first w.acts p'.state) rest
     (comes_on w.acts (V.stored_value around' stored' w.acts p'.state) pass
     (comes_on w.acts flow fit
-    (comes_map (number_aims k labels y) (before code a4' w.acts fit) flow
+    (comes_map (number_aims k labels y) (before code a4' w.acts fit) refl flow
     (λ c' f' v' z s q.
     subst (Comes code c' f' v' a4') (sym (fit_is around' z w.acts s q.0))
     (record {
-      to = record {
-        to = record {
-          to =
+      to = λ early. record {
+        to = λ early. record {
+          to = λ early.
               given_goes labels left' acts wanted c' f' v' z s y h
               (λ p1 numbers1 o1. each p1 numbers1 z o1 q.0) (omega arith) q.0 q.1
               (back_of v (given' ++ calling c) l1) (omega (arith, at_call, size, n0, n1, n2)) (omega arith);

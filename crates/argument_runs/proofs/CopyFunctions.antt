@@ -90,6 +90,7 @@ use Rattle.argument_runs.proofs.CopyBlocks.{first_begun, is_copy, is_giving, run
 use Rattle.argument_runs.proofs.CopyCalls.{calling, forgotten, in_forgotten}
 use Rattle.argument_runs.proofs.GivenLists.{arguments_comes, with_list_stands}
 use Rattle.argument_runs.proofs.ListCalls.{list_calls_return}
+use Rattle.block_runs.proofs.Early.{comes_early}
 
 -- ---- the function, where it is called
 
@@ -138,7 +139,7 @@ function_goes y h f b o each only few there =
     list_comes k.around x.body w.acts k.first.state (λ height label s q. absurd q)
     (comes_on w.acts flow next'
     (comes_map (statement_aims k [] acts (body_index c + size_of body) left_over left_over)
-    (before code aims w.acts next') flow
+    (before code aims w.acts next') refl flow
     (λ c' f' v' r s q.
     subst (λ u. Comes code c' f' v' aims (error k.around no_value_code w.acts u)) (sym q.state)
     (onward (body_closed k.call left_over) q.reach
@@ -199,7 +200,9 @@ copy_function_runs {y} credits wanted f h callee body_comes paid there gives =
     let c0 = credits + (left_over + size_of (function_end x)) + 2 + size_of (listing_of x) in
     subst (λ flow. Comes y.code credits f (services_of (given_point y)) (behind_aims k wanted) flow)
     (sym (run_means c.around x.head x.body (entry_of g0 y) w.acts y.point.state callee.kind h.room.shallow))
-    (list_calls_return k (giving_of g0 y) (M.block_body around' x.head x.body (entry_of g0 y)) credits left_over wanted
+    (comes_early w refl there
+    (λ early.
+    list_calls_return k (giving_of g0 y) (M.block_body around' x.head x.body (entry_of g0 y)) credits left_over wanted
     f (is_giving h)
     (λ g at.
     subst (λ flow. Comes y.code c0 g (services_of start) (body_aims k left_over) flow)
@@ -213,8 +216,8 @@ copy_function_runs {y} credits wanted f h callee body_comes paid there gives =
     (act_comes (before_closed w.acts next' closed) x.head.line (c0 + size_of copies) 0 g' (copied_known h)
     (h.coded.line, callee.acts, omega (arith, n0, n1, n2, n3, n4, paid)) (front_of one (body ++ tail) l1) at'
     (λ g'' less at''.
-    let o = first_among h less in
-    body_comes (first_begun h o.stands) o g'' at''))))) there gives)
+    let o = first_among h early less in
+    body_comes (first_begun h o.stands) o g'' at''))))) there gives))
 
 -- ---- at each of the block's points
 
@@ -418,7 +421,7 @@ behind_goes {k} {c} {φ} {φs} {numbers = numbers} {p = p} {x = x} call z h o si
     let first = o.later.acts in
     let more = q.later.acts in
     record {
-      to = (
+      to = λ early. (
         q.result.1,
         record {
           point = forgotten φ φs q.point;
@@ -531,7 +534,7 @@ given_goes {k} {c} {φ} {φs} call c' f' v' z s x y h each wide q same l at paid
     (o.later.layers ∙ h.room.newest) (h.room.words, word_small z wide)
     (front_of (value_given ++ list_given) (calling c) l) there)
     (λ g' there'.
-    comes_map (behind_aims (called_of (Some number_function) u) x.wanted) aims' flow
+    comes_map (behind_aims (called_of (Some number_function) u) x.wanted) aims' refl flow
     (λ c1 f1 v1 r t e. behind_goes {x = x} call z h o (omega (arith, since, more)) (q.line ∙ same.1)
     (λ n less. q.stays n (same.2 n less) ∙ same.3 n less) at.1 c1 f1 v1 r t e)
     (λ c1 f1 v1 height label t e. absurd e)
@@ -588,13 +591,13 @@ copy_function_comes k c source φ φs need more h ev each p numbers taken credit
     (comes_on w.acts (V.argument k.around first w.acts p.state) rest
     (comes_on w.acts (V.stored_value k.around stored' w.acts p.state) pass
     (comes_on w.acts flow fit
-    (comes_map (number_aims k.block k.labels y) (before code a4' w.acts fit) flow
+    (comes_map (number_aims k.block k.labels y) (before code a4' w.acts fit) refl flow
     (λ c' f' v' z s q.
     subst (Comes code c' f' v' a4') (sym (fit_is k.around z w.acts s q.0))
     (record {
-      to = record {
-        to = record {
-          to =
+      to = λ early. record {
+        to = λ early. record {
+          to = λ early.
               given_goes call c' f' v' z s x y h (λ p1 numbers1 o1. each call p1 numbers1 z o1 q.0) q.0 q.1
               (omega arith, refl, (λ n less. less), (λ n less. refl)) (back_of v (given' ++ calling c) l')
               (refl, omega (arith, size, n1, n2)) (omega (arith, paid, size, n1, n2));

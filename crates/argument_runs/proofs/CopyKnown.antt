@@ -55,7 +55,7 @@ pub record Given (y : CopyCall) : Type 0 where
   pub image : IsImage y.surroundings y.code y.point
   pub few : AreFew y.surroundings y.point
   pub room : HasRoomFor y.surroundings y.point y.callee y.layer y.others
-  pub small' : y.surroundings.serials * y.surroundings.acts + 1 < 2 ^ 64
+  pub small' : y.surroundings.serials + 1 < 2 ^ 40
   pub level : y.callee.procedure.head.level < most_levels
 
 pub copy_parameter :
@@ -109,7 +109,7 @@ copy_parameter {g} {y} h x own b =
       level = sym own.level;
       few = omega (arith, level, head);
       words = h.room.words;
-      small = (let few = few_small w p h.stands h.few h.small' in omega (arith, few));
+      small = (let few = few_small w p 1 h.few h.small' in omega (arith, few));
       number = h.room.number;
       numbered = h.room.shape;
       low = subst (λ n. 2 ^ 22 ≤ n) (sym there) (omega (arith, high, low, above, room, same, same'));

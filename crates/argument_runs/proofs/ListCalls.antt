@@ -1,5 +1,5 @@
 -- A call with a list of arguments comes behind it, if the procedure's body comes to its end.
-use Rattle.std.proofs.Common.{ℕ, ◌+◌, None, true}
+use Rattle.std.proofs.Common.{ℕ, ◌+◌, None, true, refl}
 use Rattle.pli_meaning.specs.Control.{Meaning, left}
 use Rattle.pli_meaning.specs.StorageState.{newest_ended}
 use Rattle.pli_coding.specs.Assembly.{size_of}
@@ -41,7 +41,7 @@ list_calls_return k g part credits left' wanted f is body there gives =
     (onward (left_closed newest_ended (owing_closed k.code debt aims))
     (list_begins (credits + debt) f is.listing is.call there gives)
     (λ h at.
-    comes_map (body_aims k left') (left_aims newest_ended owed) flow
+    comes_map (body_aims k left') (left_aims newest_ended owed) refl flow
     (λ c g' v u s o. at_end_owing k left' wanted c g' v None s is.ending o)
     (λ c g' v height label s o. absurd o)
     (λ c g' v r s o. at_end_owing k left' wanted c g' v r s is.ending o)

@@ -675,7 +675,7 @@ parameter_does k x is p numbers taken c index f o line registers l paid there =
     (number_aims k.block k.labels (behind p numbers taken c index part)) flow)
     (sym (parameter_is k.around w.acts n.z n.holds n.value))
     (record {
-      to = (
+      to = λ early. (
         n.wide,
         word_here {x = behind p numbers taken c index part} h o (omega arith) refl
             (reach_moved (omega (arith, size)) (omega (arith, size)) (read_comes is o n h c f l0 there)),

@@ -259,9 +259,9 @@ pub record IsCopyCall (k : Block) (c : Copying) (source : Y.Number) (φ : Layer)
       (stmt_code k.environment none_taken (call_with k c source line))
   pub call : c.calling.call + 2 ≡ index + size_in k (call_with k c source line)
   pub paid : size_in k (call_with k c source line) + most ≤ cost k.call.code
-  -- an act pays for the copy's serial number, and all of them have 8 bytes
+  -- the copy's serial number is among those that may come, and all of them have 8 bytes
   pub few : 1 ≤ k.call.surroundings.serials
-  pub small : k.call.surroundings.serials * k.call.surroundings.acts + 1 < 2 ^ 64
+  pub small : k.call.surroundings.serials + 1 < 2 ^ 40
   -- its static parent is the running block
   pub level : k.environment.level ≡ k.call.beginning.layer.level
   pub parent : c.calling.parent ≡ length k.call.point.state.activations + 1

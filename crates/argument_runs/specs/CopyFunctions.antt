@@ -114,7 +114,7 @@ pub record IsCopyFunctionCall (k : Setting) (c : Copying) (φ : Layer) (φs : Li
   pub room : HasRoomFor k.block.call.surroundings k.block.first c φ φs
   pub words : k.words ≡ 0
   pub few : 1 ≤ k.block.call.surroundings.serials
-  pub small : k.block.call.surroundings.serials * k.block.call.surroundings.acts + 1 < 2 ^ 64
+  pub small : k.block.call.surroundings.serials + 1 < 2 ^ 40
   pub level : k.block.environment.level ≡ k.block.call.beginning.layer.level
   pub parent : c.calling.parent ≡ length k.block.call.point.state.activations + 1
   pub found :

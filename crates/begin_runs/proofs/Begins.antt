@@ -57,6 +57,7 @@ use Rattle.begin_runs.specs.BeginBlocks.{entry_index, environment_of, inner_begi
 use Rattle.begin_runs.specs.BeginBlocks.{list_code, list_index}
 use Rattle.begin_runs.specs.BehindLists.{GoesBehind, from_point, list_aims}
 use Rattle.begin_runs.proofs.Meaning.{begin_means, behind_act, comes_passed, list_of, within, within_closed}
+use Rattle.block_runs.proofs.Early.{comes_early}
 
 -- ---- where it stands
 
@@ -442,7 +443,7 @@ list_goes z h m acts wanted c2 f since size l goes paid there =
     let end = end_index k z.point z.numbers z.inner z.index in
     let owed = owing k.call.code (debt_of z) (goal_of z acts wanted) in
     let flow = M.list i.around z.inner.body k.call.surroundings.acts i.first.state in
-    comes_map (list_aims i first end c2 z.left') (within owed) flow
+    comes_map (list_aims i first end c2 z.left') (within owed) refl flow
     (λ c' f' v' r s q. begin_ends z h acts wanted c2 since size
     (back_of (list_code k z.inner) (ending_of z) l) c' f' v' s (fewer first same q))
     (λ c' f' v' height label s q i0 f0 v0 from. jumps_repaid {k = k} (debt_of z) from
@@ -516,6 +517,8 @@ begin_comes k labels x index left' more h made' goes p numbers c wanted f o paid
     let acts = p.state.world.acts in
     let goal = goal_of z acts wanted in
     let next' : Unit {0} → Meaning (Unit {0}) = λ u. behind_act k.around x.head x.body in
+    comes_early w refl there
+    (λ early.
     comes_owing (debt_of z) (M.statement k.around (begin_of x) w.acts p.state)
     (comes_on w.acts (act counted w.acts p.state) next'
     (act_comes (before_closed w.acts next' (owing_closed k.call.code (debt_of z) goal)) x.head.line (c + debt_of z) 0 f
@@ -526,10 +529,10 @@ begin_comes k labels x index left' more h made' goes p numbers c wanted f o paid
     let later : k.first.state.world.acts < p'.state.world.acts = omega (arith, since) in
     let m = made' p' numbers o' later in
     let same = m.0.acts in
-    let few = few_made w p (own_block z).first o.few m.0.few (omega (arith, same)) in
+    let few = few_made w p (own_block z).first early m.0.few less in
     begin_goes z (record { begin = h; among = o' }) (record { made = m.0; marks = m.1; few = few }) acts wanted g
     (omega arith)
-    (back_of one (whole_code z) l) (goes p' numbers o' later) (omega (arith, paid, n)) at)))
+    (back_of one (whole_code z) l) (goes p' numbers o' later) (omega (arith, paid, n)) at))))
 
 -- a jump that no list of the block catches leaves it
 pub out_of_all :
@@ -562,7 +565,7 @@ begin_does k labels x index left' more h made' each =
     let acts = i.first.state.world.acts in
     let end = end_index k p numbers x index in
     λ b o' enough marks l c f paid there.
-    comes_map (statement_aims i [] acts end c left') (list_aims i acts end c left')
+    comes_map (statement_aims i [] acts end c left') (list_aims i acts end c left') refl
     (M.list i.around x.body k.call.surroundings.acts i.first.state)
     (λ c' f' v' r s q. record { first = i.first; begun = b; goes = q })
     (λ c' f' v' height label s q. out_of_all q)

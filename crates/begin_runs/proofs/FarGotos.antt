@@ -464,7 +464,7 @@ far_does k labels x line index left' a h l p numbers c wanted f o paid there =
     let r = far_reach k x (index + size_of one) 0 g h o' (back_of one (first ++ (back ++ jump)) l') at in
     let more = left_acts z is in
     record {
-      to = λ i0 f0 v0 from. record {
+      to = λ early i0 f0 v0 from. record {
         to = inr (outs_at w k.call.code k.outers x.behind x.outer x.rest (closed p'.state) h.there
             (record {
               own = ap (λ xs. height_of (ancestor xs (newest_height xs) x.level)) o'.later.activations ∙ h.found;

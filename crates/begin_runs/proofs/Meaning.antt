@@ -95,6 +95,7 @@ begin_means around inner head body more parent k s enter same height kind few =
 abbrev pub within : Aims (Unit {0}) → Aims (Unit {0})
 within aims =
     record {
+      limits = aims.limits;
       done = λ c f v r s. aims.done c f v tt (closed s);
       jumped = λ c f v height label s. aims.jumped c f v height label (closed s);
       returned = λ c f v r s. aims.returned c f v r (closed s);

@@ -379,7 +379,7 @@ through_does k labels x line index left' a h l p numbers c wanted f o paid there
     let r = reach_then r1 r2 in
     let services = ap (λ ls. services_of (with_newest ls (left_point z is))) (layers_there z is) in
     record {
-      to = λ i0 f0 v0 from. record {
+      to = λ early i0 f0 v0 from. record {
         to = subst (λ q. either q
             (ReturnsOut w k.call.code k.outers left' i0 f0 v0 None (closed p'.state))
             (AtEnd k.call left' i0 f0 v0 None p'.state)) (sym h.begins.0)

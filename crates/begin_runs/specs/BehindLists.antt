@@ -6,6 +6,7 @@ use Rattle.activation_relation.specs.Landing.{closed}
 use Rattle.activation_relation.specs.Layers.{Point}
 use Rattle.run_steps.specs.Reach.{Aims, Family}
 use Rattle.program_runs.specs.Statements.{Block, GoesOn, IsBegun, JumpsOut, ReturnsTo}
+use Rattle.block_runs.specs.Machines.{limits_of}
 
 -- a block may have other units than it had at its first statement, and so another first point
 abbrev pub from_point : Block → Point → Block
@@ -21,6 +22,7 @@ pub record GoesBehind (k : Block) (acts index wanted credits : ℕ) (f : Family)
 abbrev pub list_aims : Block → (acts index wanted left' : ℕ) → Aims (Unit {0})
 list_aims k acts index wanted left' =
     record {
+      limits = limits_of k.call.surroundings;
       done = λ c f v r s. GoesBehind k acts index wanted c f v s;
       jumped = λ c f v height label s.
           JumpsOut k.call.surroundings k.call.code k.outers acts c f v height label (closed s);

@@ -12,10 +12,10 @@ use Rattle.pli_coding.specs.Linking.{links_of}
 use Rattle.pli_coding.specs.Procedures.{procedure_environment}
 use Rattle.storage_relation.specs.Versions.{no_constants}
 use Rattle.activation_relation.specs.Layers.{services_of}
-use Rattle.run_steps.specs.Reach.{Comes, never}
+use Rattle.run_steps.specs.Reach.{Comes}
 use Rattle.program_runs.specs.Procedures.{Procedure, procedure_code}
 use Rattle.program_runs.specs.Rows.{row_head}
-use Rattle.program_runs.specs.Starts.{Image, first_family, image_parts, start_of, start_point}
+use Rattle.program_runs.specs.Starts.{Image, first_family, image_parts, start_of, start_point, never_in}
 use Rattle.begin_runs.specs.BeginBlocks.{Inner}
 
 -- ---- the program: BEGIN; BEGIN; RETURN; END; END;
@@ -95,7 +95,7 @@ pub record LeaveRan : Type 0 where
   pub runs :
       (input first : List ℕ) (acts : ℕ) → acts + 1 < 2 ^ 64 → length first ≡ memory_size →
       Comes (linked_code leave_code) 0 (first_family first (services_of (start_point (leave_image input acts))))
-      (services_of (start_point (leave_image input acts))) never
+      (services_of (start_point (leave_image input acts))) (never_in (leave_image input acts))
       (run leave_program (suc acts) acts (first_state input))
   -- that ends with its fifth act, since the RETURN ends both begin blocks and the procedure
   pub ends :

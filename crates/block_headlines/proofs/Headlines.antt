@@ -13,21 +13,21 @@ use Rattle.pli_coding.specs.Linking.{links_of}
 use Rattle.pli_coding.specs.SignatureTable.{table_of}
 use Rattle.storage_relation.specs.Versions.{no_constants}
 use Rattle.activation_relation.specs.Layers.{services_of}
-use Rattle.run_steps.specs.Reach.{Comes, never}
+use Rattle.run_steps.specs.Reach.{Comes, GiveFew}
 use Rattle.run_steps.proofs.Linking.{linked_length}
 use Rattle.code_marks.specs.CodeMarks.{MarkedOnce}
 use Rattle.storage_relation.specs.ServiceLaws.{TableDiffers}
 use Rattle.program_places.specs.Rows.{turning_program}
-use Rattle.pli_headline.specs.Within.{HeadlineWithin}
 use Rattle.pli_headline.specs.Headline.{FitsMemory, Headline, parts}
-use Rattle.pli_headline.proofs.Promises.{Comes_at, Laws, WorksWithin, from_flow, promised, promised_within}
+use Rattle.pli_headline.proofs.Promises as P
+use Rattle.pli_headline.proofs.Promises.{Comes_at, Laws, Works, from_flow, promised}
 use Rattle.pli_headline.proofs.WholeSizes.{first_length}
 use Rattle.program_runs.specs.Rows.{main_entry, row_end, row_environment, row_inner, row_main, row_procedure}
 use Rattle.program_runs.specs.Rows.{row_program}
 use Rattle.program_runs.specs.VariableRows.{number_declared, number_entry, number_environment, number_main}
 use Rattle.program_runs.specs.VariableRows.{number_program}
 use Rattle.program_runs.specs.Programs.{IsWhole}
-use Rattle.program_runs.specs.Starts.{first_family, start_point}
+use Rattle.program_runs.specs.Starts.{first_family, start_point, never_in, surroundings_of}
 use Rattle.program_runs.specs.Names.{newest_named}
 use Rattle.program_runs.specs.Variables.{newest_made}
 use Rattle.program_runs.proofs.Programs.{program_runs}
@@ -84,7 +84,7 @@ use Rattle.unit_runs.proofs.DeepRows.{deep_does, deep_finish, deep_is}
 use Rattle.unit_runs.proofs.JumpRows.{skip_does, skip_finish, skip_is}
 use Rattle.unit_runs.proofs.LoopRows.{loop_does, loop_finish, loop_is}
 use Rattle.unit_runs.proofs.Rows.{mend_does, mend_finish, mend_is}
-use Rattle.block_headlines.specs.Headlines.{HeadlinesOfRows, Layout, Runs, RunsWithin, UnitsRun, whole_of}
+use Rattle.block_headlines.specs.Headlines.{HeadlinesOfRows, Layout, Runs, UnitsRun, whole_of}
 use Rattle.block_headlines.proofs.JumpRuns.{bolt_layout, bolt_program_runs, flee_layout, flee_program_runs}
 use Rattle.block_headlines.proofs.JumpRuns.{mute_layout, mute_program_runs, shed_layout, shed_program_runs}
 use Rattle.block_headlines.proofs.OperatorRuns.{square_layout, square_program_runs, turn_layout, turn_program_runs}
@@ -96,60 +96,52 @@ use Rattle.block_headlines.proofs.ExtentRuns.{bend_layout, bend_units_run, grow_
 use Rattle.block_headlines.proofs.ElementRuns.{pick_layout, pick_program_runs}
 use Rattle.block_headlines.proofs.GroupRuns.{group_layout, group_program_runs}
 use Rattle.block_headlines.proofs.PlacedRuns.{turning_layout, turning_program_runs}
+use Rattle.block_runs.specs.Machines.{limits_of}
+use Rattle.activation_relation.specs.Points.{early_serials}
 
 -- a program whose run is known at each number of acts, from its first instruction
-record IsKnown (limit : ℕ) (program : Y.Program) (x : Layout) : Type 0 where
+record IsKnown (program : Y.Program) (x : Layout) : Type 0 where
   whole :
-      (input : List ℕ) (acts : ℕ) → acts + 1 < limit →
+      (input : List ℕ) (acts : ℕ) → acts + 1 < 2 ^ 64 →
       IsWhole (whole_of program x input acts) (first_bytes (picture_of parts program))
   runs :
-      (input : List ℕ) (acts : ℕ) → acts + 1 < limit →
+      (input : List ℕ) (acts : ℕ) → acts + 1 < 2 ^ 64 →
       Comes (whole_of program x input acts).image.code 0
       (first_family (first_bytes (picture_of parts program))
       (services_of (start_point (whole_of program x input acts).image)))
-      (services_of (start_point (whole_of program x input acts).image)) never
+      (services_of (start_point (whole_of program x input acts).image)) (never_in (whole_of program x input acts).image)
       (run program (suc acts) acts (first_state input))
 
 comes :
-    Laws → (limit : ℕ) (program : Y.Program) (x : Layout) → IsKnown limit program x → (input : List ℕ) (k : ℕ) →
-    k + 1 < limit →
+    Laws → (program : Y.Program) (x : Layout) → IsKnown program x → (input : List ℕ) (k : ℕ) → k + 1 < 2 ^ 64 →
+    GiveFew (picture_of parts program).code (limits_of (surroundings_of (whole_of program x input k).image))
+    (P.first_family (picture_of parts program) (table_of program) input) →
     Comes_at (picture_of parts program) (table_of program) program input k
 unfolding meaning
-comes laws limit program x is input k few =
-    from_flow laws (picture_of parts program) (table_of program) program input k
-    (run program (suc k) k (first_state input)) refl (is.runs input k few)
+comes laws program x is input k few early =
+    from_flow (limits_of (surroundings_of (whole_of program x input k).image)) laws (picture_of parts program)
+    (table_of program) program input k (run program (suc k) k (first_state input)) refl (is.runs input k few) early
 
 works :
-    Laws → (limit : ℕ) (program : Y.Program) (x : Layout) → IsKnown limit program x → 1 < limit →
-    WorksWithin limit (picture_of parts program) (table_of program) program
-works laws limit program x is some =
+    Laws → (program : Y.Program) (x : Layout) → IsKnown program x →
+    Works (picture_of parts program) (table_of program) program
+works laws program x is =
+    let start = (is.whole [] 0 (omega arith)).start.linked in
+    let low = start.small' in
     record {
-      some = some;
-      comes = comes laws limit program x is;
+      small = omega (arith, low);
+      early = early_serials;
+      enough = omega arith;
+      comes = comes laws program x is;
       first = λ input b. first_step_of (first_bytes (picture_of parts program))
-          (first_services (table_of program) input) x.main.head.number (is.whole input 0 some).start.linked b;
+          (first_services (table_of program) input) x.main.head.number start b;
     }
 
 promised_by :
-    Laws → (program : Y.Program) (x : Layout) → IsKnown (2 ^ 64) program x →
+    Laws → (program : Y.Program) (x : Layout) → IsKnown program x →
     Headline program (picture_of parts program) (table_of program)
 promised_by laws program x is =
-    promised laws (picture_of parts program) (table_of program) program
-    (works laws (2 ^ 64) program x is (omega arith))
-
-pub short_kept :
-    Laws → Keeps run_keeper → (limit : ℕ) (program : Y.Program) (x : Layout) → RunsWithin limit program x →
-    (1 < limit) × (limit ≤ 2 ^ 64) → HeadlineWithin limit program (picture_of parts program) (table_of program)
-short_kept laws keeps limit program x is low =
-    promised_within limit laws (picture_of parts program) (table_of program) program
-    (works laws limit program x
-    (record {
-      whole = is.whole;
-      runs = λ input k few.
-          program_runs keeps (whole_of program x input k) (first_bytes (picture_of parts program))
-          (is.whole input k few) (is.each input k few);
-    }) low.0)
-    low.1
+    promised laws (picture_of parts program) (table_of program) program (works laws program x is)
 
 pub kept :
     Laws → Keeps run_keeper → (program : Y.Program) (x : Layout) → Runs program x →

@@ -10,7 +10,6 @@ use Rattle.pli_coding.specs.SignatureTable.{table_of}
 use Rattle.storage_relation.specs.Fills.{Fills}
 use Rattle.activation_relation.specs.Chains.{UnitPlaces}
 use Rattle.activation_relation.specs.Layers.{Point}
-use Rattle.pli_headline.specs.Within.{HeadlineWithin}
 use Rattle.pli_headline.specs.Headline.{Headline, parts}
 use Rattle.program_runs.specs.Calls.{block_at, body_index, labels_of, left_over}
 use Rattle.program_runs.specs.Procedures.{Procedure}
@@ -56,7 +55,7 @@ use Rattle.unit_runs.specs.Rows.{mend_program}
 
 -- what is said of a program's image beside the program: its main procedure and the others, where its code and its end
 -- stand, where the code of its on-units stands, what is told of its static data, which signatures a run may fill in, how
--- many serials may come for each act, and what becomes of the point where its variables are made
+-- many serials may come between two acts, and what becomes of the point where its variables are made
 pub record Layout : Type 0 where
   pub main : Procedure
   pub others : List Y.Procedure
@@ -93,14 +92,13 @@ whole_of program x input acts =
       made = x.made;
     }
 
--- whatever the input and the number of acts below a limit, it is a whole program, of which each statement does what it
--- means
-pub record RunsWithin (limit : ℕ) (program : Y.Program) (x : Layout) : Type 0 where
+-- whatever the input and the number of acts, it is a whole program, of which each statement does what it means
+pub record Runs (program : Y.Program) (x : Layout) : Type 0 where
   pub whole :
-      (input : List ℕ) (acts : ℕ) → acts + 1 < limit →
+      (input : List ℕ) (acts : ℕ) → acts + 1 < 2 ^ 64 →
       IsWhole (whole_of program x input acts) (first_bytes (picture_of parts program))
   pub each :
-      (input : List ℕ) (acts : ℕ) → acts + 1 < limit →
+      (input : List ℕ) (acts : ℕ) → acts + 1 < 2 ^ 64 →
       IsBegun
       (block_at (surroundings_of (whole_of program x input acts).image) (linked_code (code_of parts program))
       (main_of (whole_of program x input acts)) (start_point (whole_of program x input acts).image) no_numbers) →
@@ -109,9 +107,6 @@ pub record RunsWithin (limit : ℕ) (program : Y.Program) (x : Layout) : Type 0 
       (main_of (whole_of program x input acts)) (start_point (whole_of program x input acts).image) no_numbers)
       (labels_of (main_of (whole_of program x input acts))) x.main.body
       (body_index (main_of (whole_of program x input acts))) left_over
-
-abbrev pub Runs : Y.Program → Layout → Type 0
-Runs program x = RunsWithin (2 ^ 64) program x
 
 -- the same with ON among its statements: its list comes to the end of its block
 pub record UnitsRun (program : Y.Program) (x : Layout) : Type 0 where
@@ -128,13 +123,7 @@ pub record UnitsRun (program : Y.Program) (x : Layout) : Type 0 where
       (main_of (whole_of program x input acts)) (start_point (whole_of program x input acts).image) no_numbers)
       x.main.body (body_index (main_of (whole_of program x input acts))) left_over
 
--- such a program keeps the headline, where runs are that short
-abbrev pub ShortHeadlinesKept : Type 0
-ShortHeadlinesKept =
-    (limit : ℕ) (program : Y.Program) (x : Layout) → RunsWithin limit program x → (1 < limit) × (limit ≤ 2 ^ 64) →
-    HeadlineWithin limit program (picture_of parts program) (table_of program)
-
--- or each run
+-- such a program keeps the headline
 abbrev pub HeadlinesKept : Type 0
 HeadlinesKept =
     (program : Y.Program) (x : Layout) → Runs program x → Headline program (picture_of parts program) (table_of program)

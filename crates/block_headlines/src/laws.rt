@@ -1,7 +1,7 @@
 // Laws of the definitions: each function's contract is one law, and calling it does nothing.
 
 ghost use Rattle.block_headlines.specs.Constants.{ConstantsTold};
-ghost use Rattle.block_headlines.specs.Headlines.{HeadlinesKept, HeadlinesOfRows, ShortHeadlinesKept, UnitHeadlinesKept};
+ghost use Rattle.block_headlines.specs.Headlines.{HeadlinesKept, HeadlinesOfRows, UnitHeadlinesKept};
 
 use code_marks::laws::marked_once;
 use pli_meaning::laws::{storage_acts_allowed, storage_stays};
@@ -12,15 +12,6 @@ use storage_relation::laws::table_differs;
 /// does what it means, whatever the input and the number of acts that are allowed.
 pub fn headlines_kept()
     ensures { HeadlinesKept }
-{
-    storage_stays();
-    storage_acts_allowed();
-    run_keeper_keeps();
-}
-
-/// If they do where fewer acts than a limit are allowed, it keeps the headline for runs of fewer instructions.
-pub fn short_headlines_kept()
-    ensures { ShortHeadlinesKept }
 {
     storage_stays();
     storage_acts_allowed();

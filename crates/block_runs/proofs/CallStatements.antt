@@ -33,7 +33,7 @@ use Rattle.run_steps.proofs.Items.{straight}
 use Rattle.run_steps.proofs.Jumps.{front_of, back_of}
 use Rattle.run_steps.proofs.Linking.{size_append}
 use Rattle.run_steps.proofs.Numbers.{below_small}
-use Rattle.run_steps.specs.Reach.{Family, Reach, reached, Aims, Closed, Comes, before, cost}
+use Rattle.run_steps.specs.Reach.{Family, Reach, reached, Aims, Closed, Comes, before, cost, ComesTo, GiveFew}
 use Rattle.run_steps.proofs.Reach.{reach_then, reached_holds, reach_map, onward, comes_on, before_closed}
 use Rattle.run_steps.proofs.Reaching.{reach_moved}
 use Rattle.run_steps.specs.Temporaries.{nothing}
@@ -145,19 +145,24 @@ called_means k p numbers more acts h few =
 -- ---- other aims
 
 pub comes_map :
-    {R : Type 0} {code : List Instr} {c : ℕ} {f : Family} {v : Services} (A B : Aims R) (flow : Flow R) →
+    {R : Type 0} {code : List Instr} {c : ℕ} {f : Family} {v : Services} (A B : Aims R) → B.limits ≡ A.limits →
+    (flow : Flow R) →
     ((c' : ℕ) (f' : Family) (v' : Services) (r : R) (s : State) → A.done c' f' v' r s → B.done c' f' v' r s) →
     ((c' : ℕ) (f' : Family) (v' : Services) (height : ℕ) (label : F.Label) (s : State) →
     A.jumped c' f' v' height label s → B.jumped c' f' v' height label s) →
     ((c' : ℕ) (f' : Family) (v' : Services) (r : Option BasicValue) (s : State) → A.returned c' f' v' r s →
     B.returned c' f' v' r s) →
     Comes code c f v A flow → Comes code c f v B flow
-comes_map {c = c} {f = f} {v = v} A B (Normal r s) d j t o = record { to = d c f v r s o.to }
-comes_map {c = c} {f = f} {v = v} A B (Jump height label s) d j t o = record { to = j c f v height label s o.to }
-comes_map {c = c} {f = f} {v = v} A B (Return r s) d j t o = record { to = t c f v r s o.to }
-comes_map A B (F.Ended s) d j t o = record { to = o.to }
-comes_map A B (Paused s) d j t o = record { to = o.to }
-comes_map A B Stuck d j t o = record { to = o.to }
+comes_map {R} {code} {c} {f} {v} A B same flow d j t o =
+    record { to = λ early. by flow (o.to (subst (λ n. GiveFew code n f) same early)) }
+  where
+    by : (flow : Flow R) → ComesTo code c f v A flow → ComesTo code c f v B flow
+    by (Normal r s) o = d c f v r s o
+    by (Jump height label s) o = j c f v height label s o
+    by (Return r s) o = t c f v r s o
+    by (F.Ended s) o = o
+    by (Paused s) o = o
+    by Stuck o = o
 
 statement_closed :
     (k : CallStatement) (p : Point) (numbers : ℕ → ℕ) (wanted : ℕ) →
@@ -227,9 +232,9 @@ call_goes k p numbers more c wanted f h less paid there =
     (front_of given' call l1) there)
     (λ g at.
     comes_map (call_aims w k.code p' numbers x wanted)
-    (before k.code (statement_aims k p numbers wanted) w.acts behind_call)
+    (before k.code (statement_aims k p numbers wanted) w.acts behind_call) refl
     flow
-    (λ c' f' v' r s o. record { to = (o.1, o.2) })
+    (λ c' f' v' r s o. record { to = λ early. (o.1, o.2) })
     (λ c' f' v' height label s o. absurd o)
     (λ c' f' v' r s o. absurd o)
     (empty_comes (c + size_of given') wanted (k.index + size_of one + size_of given') k.entry g q (

@@ -195,7 +195,7 @@ calls_return k part credits left' wanted f h body there gives =
     (onward (left_closed newest_ended (owing_closed k.code debt aims))
     (calls (credits + debt) k.call k.entry f q h.code there gives)
     (λ g at.
-    comes_map (body_aims k left') (left_aims newest_ended owed) flow
+    comes_map (body_aims k left') (left_aims newest_ended owed) refl flow
     (λ c g' v u s o. at_end_owing k left' wanted c g' v None s (ending_of k h) o)
     (λ c g' v height label s o. absurd o)
     (λ c g' v r s o. at_end_owing k left' wanted c g' v r s (ending_of k h) o)

@@ -37,6 +37,7 @@ use Rattle.block_runs.proofs.PointCalls.{calls}
 abbrev pub left_aims : (State → State) → Aims (Option BasicValue) → Aims (Unit {0})
 left_aims close aims =
     record {
+      limits = aims.limits;
       done = λ c f v r s. aims.done c f v None (with_world s.world (close s));
       jumped = λ c f v height label s. aims.jumped c f v height label (with_world s.world (close s));
       returned = λ c f v r s. aims.done c f v r (with_world s.world (close s));

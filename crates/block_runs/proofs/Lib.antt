@@ -6,6 +6,7 @@ pub mod PointGrounds
 pub mod BlockEntries
 pub mod InnerEntries
 pub mod Endings
+pub mod Early
 pub mod PointCalls
 pub mod PointActs
 pub mod EmptyCalls

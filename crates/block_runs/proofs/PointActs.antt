@@ -32,7 +32,7 @@ use Rattle.run_steps.proofs.Linking.{size_append}
 use Rattle.run_steps.specs.Reach.{Family, Reach, reached, Aims, Closed, Comes, cost}
 use Rattle.run_steps.proofs.Reach.{reach_then, reached_holds, onward, stay}
 use Rattle.run_steps.specs.Temporaries.{nothing}
-use Rattle.block_runs.specs.Machines.{IsIn, IsImage, AreIn, acted}
+use Rattle.block_runs.specs.Machines.{IsIn, IsImage, AreIn, acted, limits_of}
 use Rattle.block_runs.proofs.BlockEntries.{small_is, word_is, word_fits}
 use Rattle.block_runs.proofs.Places.{IsFrame}
 use Rattle.block_runs.proofs.PointGrounds.{point_ground, known_in, in_known, point_frame, call_is}
@@ -178,6 +178,7 @@ abbrev behind_aims :
     Surroundings → List Instr → Point → (numbers : ℕ → ℕ) → (line wanted index : ℕ) → Aims (Unit {0})
 behind_aims w code p numbers line wanted index =
     record {
+      limits = limits_of w;
       done = λ c f v r s.
           (s ≡ (acted line p).state)
           × Reach code c f v wanted (services_of (acted line p)) (λ b y. IsIn w (acted line p) numbers index b y);

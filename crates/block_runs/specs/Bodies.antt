@@ -23,7 +23,7 @@ use Rattle.activation_relation.specs.Points.{AreFew, Stands, Surroundings}
 use Rattle.activation_relation.specs.Remaining.{Remains}
 use Rattle.block_runs.specs.Beginnings.{Beginning, IsBeginning, IsCalling, CallStands, begun_point, beginning_code}
 use Rattle.block_runs.specs.Endings.{IsWord, HasGiven, ending_code}
-use Rattle.block_runs.specs.Machines.{IsImage, IsIn, AreIn}
+use Rattle.block_runs.specs.Machines.{IsImage, IsIn, AreIn, limits_of}
 
 -- a function leaves its word at a place of its frame: a value of a kind
 pub record Function : Type 0 where
@@ -106,6 +106,7 @@ pub record AtEnd (k : Called) (left' credits : ℕ) (f : Family) (v : Services) 
 abbrev pub body_aims : Called → (left' : ℕ) → Aims (Unit {0})
 body_aims k left' =
     record {
+      limits = limits_of k.surroundings;
       done = λ c f v r s. AtEnd k left' c f v None s;
       jumped = λ c f v height label s. ⊥;
       returned = λ c f v r s. AtEnd k left' c f v r s;
@@ -135,6 +136,7 @@ pub record IsBehind (k : Called) (wanted credits : ℕ) (f : Family) (v : Servic
 abbrev pub behind_aims : Called → (wanted : ℕ) → Aims (Option BasicValue)
 behind_aims k wanted =
     record {
+      limits = limits_of k.surroundings;
       done = λ c f v r s. IsBehind k wanted c f v r s;
       jumped = λ c f v height label s. ⊥;
       returned = λ c f v r s. ⊥;

@@ -19,7 +19,7 @@ use Rattle.activation_relation.specs.Layers.{Point, services_of}
 use Rattle.activation_relation.specs.Points.{Surroundings, Stands}
 use Rattle.block_runs.specs.Beginnings.{Beginning, IsBeginning}
 use Rattle.block_runs.specs.EmptyProcedures.{empty_code, called_point}
-use Rattle.block_runs.specs.Machines.{IsImage, IsIn, AreIn, acted}
+use Rattle.block_runs.specs.Machines.{IsImage, IsIn, AreIn, acted, limits_of}
 
 -- where it runs and where it stands: its line and its index, what is called, and the index of that
 pub record CallStatement : Type 0 where
@@ -74,6 +74,7 @@ behind_statement k p = called_point k.beginning (acted k.line p)
 abbrev pub statement_aims : CallStatement → Point → (numbers : ℕ → ℕ) → (wanted : ℕ) → Aims (Unit {0})
 statement_aims k p numbers wanted =
     record {
+      limits = limits_of k.surroundings;
       done = λ c f v r s.
           (s ≡ (behind_statement k p).state)
           × Reach k.code c f v wanted (services_of (behind_statement k p))

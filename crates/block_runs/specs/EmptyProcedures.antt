@@ -21,7 +21,7 @@ use Rattle.activation_relation.specs.Layers.{Point, services_of}
 use Rattle.activation_relation.specs.Points.{Surroundings, Stands}
 use Rattle.block_runs.specs.Beginnings.{Beginning, IsBeginning, IsCalling, CallStands, begun_point, beginning_code}
 use Rattle.block_runs.specs.Endings.{ending_code}
-use Rattle.block_runs.specs.Machines.{IsImage, IsIn, AreIn, acted}
+use Rattle.block_runs.specs.Machines.{IsImage, IsIn, AreIn, acted, limits_of}
 
 -- its beginning, the act of its entry, and its end
 abbrev pub empty_code : Beginning → Code
@@ -37,6 +37,7 @@ abbrev pub call_aims :
     Surroundings → List Instr → Point → (numbers : ℕ → ℕ) → Beginning → (wanted : ℕ) → Aims (Option BasicValue)
 call_aims w code p numbers x wanted =
     record {
+      limits = limits_of w;
       done = λ c f v r s.
           (r ≡ None) × (s ≡ (called_point x p).state)
           × Reach code c f v wanted (services_of (called_point x p))

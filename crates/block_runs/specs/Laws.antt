@@ -12,7 +12,7 @@ use Rattle.activation_relation.specs.Changes.{popped}
 use Rattle.activation_relation.specs.Entering.{BlockEnd}
 use Rattle.activation_relation.specs.Layers.{Point, services_of}
 use Rattle.activation_relation.specs.Points.{Surroundings, Stands}
-use Rattle.block_runs.specs.Machines.{IsImage, IsIn, AreIn, acted}
+use Rattle.block_runs.specs.Machines.{IsImage, IsIn, AreIn, acted, limits_of}
 use Rattle.block_runs.specs.Endings.{IsEnding, IsWord, HasGiven, ending_code}
 use Rattle.block_runs.specs.Beginnings.{Beginning, IsBeginning, IsCalled, IsCalling, CallStands, begun_point}
 use Rattle.block_runs.specs.Beginnings.{beginning_code}
@@ -60,6 +60,7 @@ abbrev pub act_aims :
     Surroundings → List Instr → Point → (numbers : ℕ → ℕ) → (line wanted index : ℕ) → Aims (Unit {0})
 act_aims w code p numbers line wanted index =
     record {
+      limits = limits_of w;
       done = λ c f v r s.
           (s ≡ (acted line p).state)
           × Reach code c f v wanted (services_of (acted line p)) (λ b y. IsIn w (acted line p) numbers index b y);

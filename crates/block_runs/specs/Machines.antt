@@ -6,11 +6,12 @@ use Rattle.run_keeper.specs.RunKeeper.{run_keeper}
 use Rattle.pli_coding.specs.Frames.{MemoryParts}
 use Rattle.image_runs.specs.Runs.{Whole, layout_of}
 use Rattle.run_steps.specs.Engine.{Base}
+use Rattle.run_steps.specs.Giving.{Limits}
 use Rattle.run_steps.specs.Reach.{Family}
 use Rattle.pli_meaning.specs.World.{counted}
 use Rattle.activation_relation.specs.Changes.{with_act, with_line}
 use Rattle.activation_relation.specs.Layers.{Layer, Point, services_of}
-use Rattle.activation_relation.specs.Points.{Surroundings, IsAt}
+use Rattle.activation_relation.specs.Points.{Surroundings, IsAt, early_serials}
 
 -- ---- where code runs
 
@@ -38,6 +39,10 @@ pub record IsIn (w : Surroundings) (p : Point) (numbers : ℕ → ℕ) (index : 
   pub at : IsAt w p numbers index b.at x.machine
   pub zero : x.machine.registers 0 ≡ 0
   pub bytes : length x.machine.memory ≡ memory_size
+
+-- the acts that are allowed, and the serials before the last of them
+abbrev pub limits_of : Surroundings → Limits
+limits_of w = record { acts = w.acts; serials = early_serials }
 
 abbrev pub AreIn : Surroundings → Point → (numbers : ℕ → ℕ) → (index : ℕ) → Family → Type 0
 AreIn w p numbers index f = (b : Base) → IsIn w p numbers index b (f b)

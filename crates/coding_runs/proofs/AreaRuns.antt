@@ -12,7 +12,7 @@ use Rattle.coding_runs.proofs.Running.{fitted, run_of, Shows}
 -- DCL P PTR, X FIXED BIN(31) BASED; BEGIN; DCL A AREA(64); ALLOCATE X IN(A) SET(P); END;
 -- P->X = 1;
 -- END T;
-abbrev area_ended_with_block : Y.Program
+abbrev pub area_ended_with_block : Y.Program
 area_ended_with_block =
     program ([] ∷ ((scalar Y.AutomaticClass Y.PointerLeaf) ∷ (scalar Y.BasedClass (Y.FixedLeaf 31)) ∷ []) ∷ ((scalar
     Y.AutomaticClass (Y.AreaLeaf (Y.ConstantExtent (pos 64)))) ∷ []) ∷ []) ((procedure (Y.BlockOf (head Y.ProcedureBlock 1 0
@@ -29,7 +29,7 @@ area_ended_with_block-runs = refl
 -- DCL A AREA(96), (P,Q,R) PTR, X CHAR(16) BASED, Y CHAR(32) BASED; ON AREA BEGIN; PUT EDIT ('FULL') (A); STOP; END; ALLOCATE
 -- X IN(A) SET(P), X IN(A) SET(Q), X IN(A) SET(R); FREE P->X, R->X; ALLOCATE Y IN(A) SET(P);
 -- END T;
-abbrev area_full_in_two_gaps : Y.Program
+abbrev pub area_full_in_two_gaps : Y.Program
 area_full_in_two_gaps =
     program ([] ∷ ((scalar Y.AutomaticClass (Y.AreaLeaf (Y.ConstantExtent (pos 96)))) ∷ (scalar Y.AutomaticClass
     Y.PointerLeaf) ∷ (scalar Y.AutomaticClass Y.PointerLeaf) ∷ (scalar Y.AutomaticClass Y.PointerLeaf) ∷ (scalar Y.BasedClass
@@ -58,7 +58,7 @@ area_full_in_two_gaps-runs = refl
 -- DCL A AREA(64), (O1,O2,O3) OFFSET(A), X FIXED BIN(31) BASED; ON AREA FREE O1->X; ALLOCATE X IN(A) SET(O1), X IN(A)
 -- SET(O2), X IN(A) SET(O3); O3->X = 7; IF O3 = O1 THEN PUT EDIT ('SAME',O2->X,O1->X) (A,F(3),F(3));
 -- END T;
-abbrev area_retry_after_free : Y.Program
+abbrev pub area_retry_after_free : Y.Program
 area_retry_after_free =
     program ([] ∷ ((scalar Y.AutomaticClass (Y.AreaLeaf (Y.ConstantExtent (pos 64)))) ∷ (scalar Y.AutomaticClass (Y.OffsetLeaf
     (Some (automatic 1 0 0)))) ∷ (scalar Y.AutomaticClass (Y.OffsetLeaf (Some (automatic 1 0 0)))) ∷ (scalar Y.AutomaticClass
@@ -90,7 +90,7 @@ area_retry_after_free-runs = refl
 -- DCL (A,B) AREA(64), (O1,O2) OFFSET(A), P PTR, X FIXED BIN(31) BASED; ALLOCATE X IN(A) SET(O1), X IN(A) SET(O2); O2->X = 8;
 -- FREE O1->X; B = A; P = POINTER(O2,B); PUT EDIT (P->X) (F(2));
 -- END T;
-abbrev copy_keeps_offsets : Y.Program
+abbrev pub copy_keeps_offsets : Y.Program
 copy_keeps_offsets =
     program ([] ∷ ((scalar Y.AutomaticClass (Y.AreaLeaf (Y.ConstantExtent (pos 64)))) ∷ (scalar Y.AutomaticClass (Y.AreaLeaf
     (Y.ConstantExtent (pos 64)))) ∷ (scalar Y.AutomaticClass (Y.OffsetLeaf (Some (automatic 1 0 0)))) ∷ (scalar
@@ -115,7 +115,7 @@ copy_keeps_offsets-runs = refl
 -- SET(O2), X IN(A) SET(O3), X IN(A) SET(O4); FREE O1->Y, O3->X; ALLOCATE X IN(A) SET(O5); IF O5 = O1 THEN PUT EDIT ('LEAST')
 -- (A);
 -- END T;
-abbrev least_gap_taken : Y.Program
+abbrev pub least_gap_taken : Y.Program
 least_gap_taken =
     program ([] ∷ ((scalar Y.AutomaticClass (Y.AreaLeaf (Y.ConstantExtent (pos 160)))) ∷ (scalar Y.AutomaticClass
     (Y.OffsetLeaf (Some (automatic 1 0 0)))) ∷ (scalar Y.AutomaticClass (Y.OffsetLeaf (Some (automatic 1 0 0)))) ∷ (scalar
@@ -143,7 +143,7 @@ least_gap_taken-runs = refl
 -- 3; ALLOCATE N IN(A) SET(P); N.V = I; N.NX = H; H = P; END; B = A; A = EMPTY(); O = H; DO WHILE(O ^= NULL()); P =
 -- POINTER(O,B); PUT EDIT (N.V) (F(3)); O = N.NX; END;
 -- END T;
-abbrev list_walked_in_a_copy : Y.Program
+abbrev pub list_walked_in_a_copy : Y.Program
 list_walked_in_a_copy =
     program ([] ∷ ((scalar Y.AutomaticClass (Y.AreaLeaf (Y.ConstantExtent (pos 160)))) ∷ (scalar Y.AutomaticClass (Y.AreaLeaf
     (Y.ConstantExtent (pos 160)))) ∷ (scalar Y.AutomaticClass (Y.OffsetLeaf (Some (automatic 1 0 0)))) ∷ (scalar
@@ -173,7 +173,7 @@ list_walked_in_a_copy-runs = refl
 -- T: PROC OPTIONS(MAIN);
 -- DCL (A,B) AREA(64), O OFFSET(A), P PTR, X FIXED BIN(31) BASED; ALLOCATE X IN(B) SET(P); O = P;
 -- END T;
-abbrev offset_into_other_area : Y.Program
+abbrev pub offset_into_other_area : Y.Program
 offset_into_other_area =
     program ([] ∷ ((scalar Y.AutomaticClass (Y.AreaLeaf (Y.ConstantExtent (pos 64)))) ∷ (scalar Y.AutomaticClass (Y.AreaLeaf
     (Y.ConstantExtent (pos 64)))) ∷ (scalar Y.AutomaticClass (Y.OffsetLeaf (Some (automatic 1 0 0)))) ∷ (scalar
@@ -190,7 +190,7 @@ offset_into_other_area-runs = refl
 -- DCL K FIXED BIN(31) INIT(3), P PTR, 1 S BASED(P), 2 N FIXED BIN(31), 2 A(K REFER(N)) FIXED BIN(31); ALLOCATE S; S.N = 4;
 -- PUT EDIT (S.A(1)) (F(3));
 -- END T;
-abbrev refer_member_above_extent : Y.Program
+abbrev pub refer_member_above_extent : Y.Program
 refer_member_above_extent =
     program ([] ∷ ((declared Y.AutomaticClass ((member 0 0) ∷ []) ((leaf (Y.FixedLeaf 31) [] ((initial 1 (T.InitialNumber (pos
     3))) ∷ [])) ∷ []) None []) ∷ (scalar Y.AutomaticClass Y.PointerLeaf) ∷ (declared Y.BasedClass ((member 0 0) ∷ (member 1 0)
@@ -211,7 +211,7 @@ refer_member_above_extent-runs = refl
 -- DCL K FIXED BIN(31) INIT(3), P PTR, 1 S BASED(P), 2 N FIXED BIN(31), 2 A(K REFER(N)) FIXED BIN(31); ALLOCATE S; S.N = 2;
 -- PUT EDIT (S.A(3)) (F(3));
 -- END T;
-abbrev refer_member_lowered : Y.Program
+abbrev pub refer_member_lowered : Y.Program
 refer_member_lowered =
     program ([] ∷ ((declared Y.AutomaticClass ((member 0 0) ∷ []) ((leaf (Y.FixedLeaf 31) [] ((initial 1 (T.InitialNumber (pos
     3))) ∷ [])) ∷ []) None []) ∷ (scalar Y.AutomaticClass Y.PointerLeaf) ∷ (declared Y.BasedClass ((member 0 0) ∷ (member 1 0)
@@ -232,7 +232,7 @@ refer_member_lowered-runs = refl
 -- DCL A AREA(64), B AREA(32), (P,Q) PTR, X FIXED BIN(31) BASED; ON AREA PUT EDIT ('NO') (A); ALLOCATE X IN(A) SET(Q), X
 -- IN(A) SET(Q), X IN(B) SET(P); P->X = 4; B = A; PUT EDIT (P->X) (F(2));
 -- END T;
-abbrev refused_area_assignment : Y.Program
+abbrev pub refused_area_assignment : Y.Program
 refused_area_assignment =
     program ([] ∷ ((scalar Y.AutomaticClass (Y.AreaLeaf (Y.ConstantExtent (pos 64)))) ∷ (scalar Y.AutomaticClass (Y.AreaLeaf
     (Y.ConstantExtent (pos 32)))) ∷ (scalar Y.AutomaticClass Y.PointerLeaf) ∷ (scalar Y.AutomaticClass Y.PointerLeaf) ∷

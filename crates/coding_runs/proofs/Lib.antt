@@ -7,6 +7,7 @@ mod ConditionRuns
 mod StreamRuns
 mod StorageRuns
 mod AreaRuns
+mod KeeperRuns
 mod FormRuns
 mod PointerRuns
 mod ParameterRuns

@@ -1,4 +1,4 @@
--- Images run in a short memory: the machine's steps, with the services over the chain of areas.
+-- Images run in a short memory: the machine's steps, with the services over a keeper of areas, the chain or another.
 use Rattle.std.proofs.Common.{ℕ, zero, suc, ◌+◌, ◌-◌, ◌*◌, List, [], ◌∷◌, ◌++◌, length, replicate}
 use Rattle.std.specs.Prelude.{slice_index}
 use Rattle.rv_meaning.specs.Machine.{Loaded, State, Effect, Goes, Faults, Calls, effect, written}
@@ -6,6 +6,7 @@ use Rattle.rv_meaning.specs.Words.{sum}
 use Rattle.pli_meaning.specs.declared.outcome.End.{End}
 use Rattle.pli_meaning.specs.World.{World, Raised}
 use Rattle.pli_typing.specs.TypedTree as Y
+use Rattle.area_keeper.specs.Keeper.{Keeper}
 use Rattle.area_keeper.specs.Chain.{chain}
 use Rattle.pli_serving.specs.Bytes.{Layout}
 use Rattle.pli_serving.specs.ServiceState.{Services, first_services}
@@ -19,29 +20,33 @@ use Rattle.pli_coding.specs.SignatureTable.{table_of}
 use Rattle.pli_coding.specs.Images.{picture_of_code, code_of}
 use Rattle.pli_meaning.specs.Pictures.{Picture}
 
--- where things lie: the stacks, and the heap with its capacity, up to the end
+-- how areas are kept, and where things lie: the stacks, and the heap with its capacity, up to the end
 pub record Short : Type 0 where
+  pub keeper : Keeper
   pub stack_start : ℕ
   pub stack_end : ℕ
   pub heap_capacity : ℕ
 
-abbrev pub short : (stack_start stack_end heap_capacity : ℕ) → Short
-short stack_start stack_end heap_capacity =
-    record { stack_start = stack_start; stack_end = stack_end; heap_capacity = heap_capacity }
+abbrev pub short : Keeper → (stack_start stack_end heap_capacity : ℕ) → Short
+short k stack_start stack_end heap_capacity =
+    record { keeper = k; stack_start = stack_start; stack_end = stack_end; heap_capacity = heap_capacity }
 
 abbrev pub parts_of : Short → MemoryParts
-parts_of m = record { stack_start = m.stack_start; stack_end = m.stack_end; area_bytes = chain.bytes_for }
+parts_of m = record { stack_start = m.stack_start; stack_end = m.stack_end; area_bytes = m.keeper.bytes_for }
 
 -- right behind a program's code and data: room for the stacks, and a heap. With other places the code is no longer.
 abbrev pub data_end : Code → ℕ
 data_end code = rounded_up 16 (data_start code + length (data_bytes code))
 
+abbrev pub fitted_by : Keeper → Y.Program → (room heap_capacity : ℕ) → Short
+fitted_by k p room heap_capacity =
+    let start = data_end (code_of (parts_of (short k 65536 131072 0)) p) in short k start (start + room) heap_capacity
+
 abbrev pub fitted : Y.Program → (room heap_capacity : ℕ) → Short
-fitted p room heap_capacity =
-    let start = data_end (code_of (parts_of (short 65536 131072 0)) p) in short start (start + room) heap_capacity
+fitted = fitted_by chain
 
 abbrev pub end_of : Short → ℕ
-end_of m = m.stack_end + chain.bytes_for m.heap_capacity
+end_of m = m.stack_end + m.keeper.bytes_for m.heap_capacity
 
 abbrev pub layout_of : Short → (code_bytes : ℕ) → Layout
 layout_of m code_bytes = record { code_bytes = code_bytes; heap_at = m.stack_end; heap_capacity = m.heap_capacity; end = end_of m }
@@ -77,19 +82,19 @@ answered s (Done v m x y) = Running (record { state = behind_call s m x y; servi
 answered s (Ends v) = Ended v
 answered s Bad = Failed s.pc
 
-abbrev pub stepped_to : Layout → Machine → Effect → Outcome
-stepped_to layout m (Goes s) =
+abbrev pub stepped_to : Keeper → Layout → Machine → Effect → Outcome
+stepped_to k layout m (Goes s) =
     Running (record { state = record { registers = tabulated s.registers; memory = s.memory; pc = s.pc }; services = m.services })
-stepped_to layout m (Faults f) = Failed m.state.pc
-stepped_to layout m Calls =
+stepped_to k layout m (Faults f) = Failed m.state.pc
+stepped_to k layout m Calls =
     answered m.state
-    (serves (record { keeper = chain; layout = layout; services = m.services; memory = m.state.memory }) m.state.registers)
+    (serves (record { keeper = k; layout = layout; services = m.services; memory = m.state.memory }) m.state.registers)
 
-abbrev pub run_on : ℕ → Layout → Loaded → Outcome → Outcome
-run_on zero layout p (Running m) = Running m
-run_on (suc n) layout p (Running m) = run_on n layout p (stepped_to layout m (effect p m.state))
-run_on n layout p (Ended v) = Ended v
-run_on n layout p (Failed place) = Failed (place - base)
+abbrev pub run_on : ℕ → Keeper → Layout → Loaded → Outcome → Outcome
+run_on zero k layout p (Running m) = Running m
+run_on (suc n) k layout p (Running m) = run_on n k layout p (stepped_to k layout m (effect p m.state))
+run_on n k layout p (Ended v) = Ended v
+run_on n k layout p (Failed place) = Failed (place - base)
 
 -- ---- what is shown
 
@@ -129,7 +134,7 @@ first_machine m program code image input =
 abbrev pub run_image : Short → (instructions : ℕ) → Y.Program → (input : List ℕ) → (code : Code) → Picture → Seen
 run_image m n program input code image =
     seen
-    (run_on n (layout_of m (4 * length image.code)) (record { base = base; code = image.code })
+    (run_on n m.keeper (layout_of m (4 * length image.code)) (record { base = base; code = image.code })
     (Running (first_machine m program code image input)))
 
 abbrev pub run_of : Short → (instructions : ℕ) → Y.Program → (input : List ℕ) → Seen

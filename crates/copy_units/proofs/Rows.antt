@@ -40,13 +40,13 @@ use Rattle.activation_relation.specs.Variables.{grown}
 use Rattle.run_steps.specs.Items.{Linked}
 use Rattle.run_steps.proofs.Jumps.{back_of, first_of, front_of, rest_of}
 use Rattle.run_steps.proofs.Linking.{has_items, linked_length}
-use Rattle.run_steps.specs.Reach.{Comes, never}
+use Rattle.run_steps.specs.Reach.{Comes}
 use Rattle.program_runs.specs.Calls as G
 use Rattle.program_runs.specs.Calls.{block_at, left_over}
 use Rattle.program_runs.specs.Procedures.{begin_of, end_of, layer_for, procedure_code}
 use Rattle.program_runs.specs.Programs.{IsWhole, Whole, main_of}
 use Rattle.program_runs.specs.Rows.{row_head}
-use Rattle.program_runs.specs.Starts.{first_family, image_parts, main_called, no_numbers, start_of}
+use Rattle.program_runs.specs.Starts.{first_family, image_parts, main_called, no_numbers, start_of, never_in}
 use Rattle.program_runs.specs.Starts.{start_point, surroundings_of}
 use Rattle.program_runs.specs.Statements.{Block, Does, EachDoes, IsAmong, IsBegun}
 use Rattle.program_runs.specs.Variables as D
@@ -697,7 +697,7 @@ mute_is input first acts few bytes =
 pub mute_runs :
     Keeps run_keeper → (input first : List ℕ) (acts : ℕ) → acts + 1 < 2 ^ 64 → length first ≡ memory_size →
     Comes (linked_code mute_code) 0 (first_family first (services_of (start_point (mute_image input acts))))
-    (services_of (start_point (mute_image input acts))) never
+    (services_of (start_point (mute_image input acts))) (never_in (mute_image input acts))
     (run mute_program (suc acts) acts (first_state input))
 mute_runs keeps input first acts few bytes =
     program_runs keeps (mute_whole input acts) first (mute_is input first acts few bytes)

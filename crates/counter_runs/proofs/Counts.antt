@@ -174,7 +174,7 @@ started_does x ls acts wanted debt c {p = p} f z wide since some paid owed o lin
     (subst (Comes code c f (services_of p) (before code goal w.acts (first_next x)))
     (sym (fit_is (around_of x) z w.acts p.state wide))
     (record {
-      to = comes_on w.acts (M.assigned (around_of x) x.count.counter (BasicNumber z) w.acts p.state) next'
+      to = λ early. comes_on w.acts (M.assigned (around_of x) x.count.counter (BasicNumber z) w.acts p.state) next'
           (turns_do x.block.around.turns x ls acts wanted debt c f z wide since (omega (arith, enough, some, later))
           (omega (arith, paid)) (omega (arith, paid)) owed o line there);
     }))
@@ -302,7 +302,7 @@ limited_does x acts wanted debt c i {numbers} {p} f z y wz wy since some paid ow
     (subst (Comes code c f (services_of p) (before code goal w.acts next'))
     (sym (x.is.step.means (line_of x) w.acts p.state))
     (record {
-      to =
+      to = λ early.
           onward closed
           (kept_reaches (starting x.words φ φs k z) ψ φs refl (limit_place (set_aside x.words)) x.words (word y) c f o
           (omega (arith, words), word_small y wy)
@@ -395,10 +395,10 @@ waited_does x acts wanted debt c i {numbers} {p} f z wz since some paid owed end
     (λ g at.
     comes_on w.acts (M.limit_of (line_of x) (Some x.count.limit) w.acts q.state) next'
     (comes_on w.acts (V.number (line_of x) x.count.limit w.acts q.state) some'
-    (comes_map (number_aims k3 x.labels y) (before code (before code goal w.acts next') w.acts some')
+    (comes_map (number_aims k3 x.labels y) (before code (before code goal w.acts next') w.acts some') refl
     (V.number (line_of x) x.count.limit w.acts q.state)
     (λ c' f' v' n s r. record {
-      to =
+      to = λ early.
           let since' = r.1.since in
           subst (λ u. Comes code c' f' v' goal (limit_next x z (Some n) w.acts u)) (sym r.1.state)
           (onward closed r.1.reach
@@ -465,10 +465,10 @@ statement_does x p numbers c wanted f o paid there =
     let y = behind p' numbers 0 0 (x.index + size_of one) part in
     comes_on w.acts (start' w.acts p'.state) (start_next x)
     (comes_on w.acts (V.number (line_of x) x.count.start w.acts p'.state) computed
-    (comes_map (number_aims k x.labels y) (before code (before code goal w.acts (start_next x)) w.acts computed)
+    (comes_map (number_aims k x.labels y) (before code (before code goal w.acts (start_next x)) w.acts computed) refl
     (V.number (line_of x) x.count.start w.acts p'.state)
     (λ c' f' v' z s q. record {
-      to =
+      to = λ early.
           let since = q.1.since in
           subst (λ u. Comes code c' f' v' goal
           (start_next x (V.ComputationalNumber x.count.precision z) w.acts u)) (sym q.1.state)

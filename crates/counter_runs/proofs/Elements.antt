@@ -39,7 +39,8 @@ element_puts :
 element_puts k x b s need begun is outside subscript p numbers c index f z wide o line registers l paid there =
     let h = point_frame o.stands o.image in
     puts_does k x b is (put_aims k.block k.labels p.state.world.acts _ _) z wide need s outside begun subscript
-    (puts_closed k.block k.labels p.state.world.acts _ _) p numbers 0 c index f (λ c' f' v' height label s' j. j) h o
+    (puts_closed k.block k.labels p.state.world.acts _ _) p numbers 0 c index f
+    (refl, λ c' f' v' height label s' j. j) h o
     line registers l paid (λ b'. known_word k.block h (there b'))
     (λ q after c' f' v' among since r. record {
       point = q;

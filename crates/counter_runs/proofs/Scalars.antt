@@ -100,7 +100,7 @@ number_puts k x begun is need p numbers c index f z wide o line registers l paid
     (c + size_of (word_stored e (in_registers k.words 0) (whole x)))))
     (sym (assigned_is k.around w.acts z n.holds))
     (record {
-      to = record {
+      to = λ early. record {
         point = q;
         numbers = numbers;
         among = assigned_among a o;

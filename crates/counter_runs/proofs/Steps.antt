@@ -284,7 +284,7 @@ ordered_does k over p numbers credits index f x z h o line registers wx wz l pai
         (sym e)
         (onward (number_closed k.block k.labels whole) r
         (λ g at'. record {
-          to = (
+          to = λ early. (
             e,
             word_here {x = whole} h o (omega arith) refl
                 (stay k.block.call.code whole.wanted g (services_of p)
@@ -311,9 +311,9 @@ ordered_does k over p numbers credits index f x z h o line registers wx wz l pai
         (λ g at'.
         comes_on acts flow next'
         (comes_map (word_aims k.block k.labels (behind p numbers 0 (credits + 1) (index + 1) raise') total)
-        (before k.block.call.code goal acts next') flow
+        (before k.block.call.code goal acts next') refl flow
         (λ c' f' v' u s q. record {
-          to = (
+          to = λ early. (
             wrapped_wide (x +ℤ z),
             subst (λ n. HasWord k.block whole n c' f' v' s)
                 (sum_residue x z wx wz ∙ sym (wrapped_word (x +ℤ z)))

@@ -25,10 +25,10 @@ use Rattle.pli_coding.specs.Statements.{words_back, words_behind_limit}
 use Rattle.activation_relation.specs.Layers.{services_of}
 use Rattle.run_steps.proofs.Jumps.{back_of, first_of, front_of, rest_of}
 use Rattle.run_steps.proofs.Linking.{linked_length}
-use Rattle.run_steps.specs.Reach.{Comes, never}
+use Rattle.run_steps.specs.Reach.{Comes}
 use Rattle.program_runs.specs.Calls.{left_over}
 use Rattle.program_runs.specs.Programs.{IsWhole, main_of}
-use Rattle.program_runs.specs.Starts.{first_family, image_parts, main_called, no_numbers}
+use Rattle.program_runs.specs.Starts.{first_family, image_parts, main_called, no_numbers, never_in}
 use Rattle.program_runs.specs.Starts.{start_point, surroundings_of}
 use Rattle.program_runs.specs.Statements.{Does}
 use Rattle.program_runs.specs.Statements.{IsBegun}
@@ -289,7 +289,7 @@ tally_is input first acts few bytes =
 pub tally_runs :
     Keeps run_keeper → (input first : List ℕ) (acts : ℕ) → acts + 1 < 2 ^ 64 → length first ≡ memory_size →
     Comes (linked_code tally_code) 0 (first_family first (services_of (start_point (tally_image input acts))))
-    (services_of (start_point (tally_image input acts))) never
+    (services_of (start_point (tally_image input acts))) (never_in (tally_image input acts))
     (run tally_program (suc acts) acts (first_state input))
 tally_runs keeps input first acts few bytes =
     unit_program_runs keeps (tally_whole input acts) first (tally_is input first acts few bytes)

@@ -40,7 +40,7 @@ use Rattle.run_steps.specs.Owing.{owing}
 use Rattle.run_steps.proofs.Owing.{owing_closed}
 use Rattle.run_steps.specs.Reach.{Aims, Closed, Comes, Family, before, cost}
 use Rattle.run_steps.proofs.Reach.{before_closed, comes_on, onward}
-use Rattle.block_runs.specs.Machines.{AreIn, IsIn}
+use Rattle.block_runs.specs.Machines.{AreIn, IsIn, limits_of}
 use Rattle.block_runs.proofs.CallStatements.{comes_map}
 use Rattle.block_runs.proofs.PointActs.{act_comes}
 use Rattle.block_runs.proofs.PointGrounds.{in_known, point_frame}
@@ -371,7 +371,7 @@ summed_does x ls {aims} closed acts c c' f v z s y wide since line at paid q nex
     (subst (Comes code c f v (before code aims w.acts (λ u. M.assigned (around_of x) x.count.counter u)))
     (sym (fit_is (around_of x) z w.acts s wide))
     (record {
-      to = subst (λ u. Comes code c f v aims (assigns x z w.acts u)) (sym q.state)
+      to = λ early. subst (λ u. Comes code c f v aims (assigns x z w.acts u)) (sym q.state)
           (onward closed q.reach
           (λ g1 at1.
           onward closed
@@ -390,7 +390,8 @@ summed_does x ls {aims} closed acts c c' f v z s y wide since line at paid q nex
 stepped_does :
     (x : Loop) → AreLinked x → {aims : Aims (Unit {0})} (closed : Closed x.block.call.code aims) (acts c : ℕ)
     {numbers : ℕ → ℕ} {p : Point} (f : Family) → acts ≤ p.state.world.acts →
-    ((c' : ℕ) (f' : Family) (v : Services) (height : ℕ) (label : Label) (s : State) →
+    (aims.limits ≡ limits_of x.block.call.surroundings)
+    × ((c' : ℕ) (f' : Family) (v : Services) (height : ℕ) (label : Label) (s : State) →
     JumpsTo (within x) x.labels acts c' f' v height label s → aims.jumped c' f' v height label s) →
     c + step_size x + x.most ≤ cost x.block.call.code → IsAmong (within x) numbers p →
     AreIn x.block.call.surroundings p numbers (line_index x) f → Again x aims acts (c + step_size x + 2) →
@@ -413,7 +414,7 @@ stepped_does x ls {aims} closed acts c {numbers} {p} f since jumps paid o there 
     onward closed (line_reaches line c f (o.stands, o.image) x.is.act.line_fits ls.line ls.service there)
     (λ g at.
     comes_on w.acts (V.number around' (Y.NumberIn x.count.counter) w.acts p.state) (λ z. added_next x z)
-    (comes_map (number_aims k x.labels y) (before code aims w.acts (λ z. added_next x z))
+    (comes_map (number_aims k x.labels y) (before code aims w.acts (λ z. added_next x z)) jumps.0
     (V.number around' (Y.NumberIn x.count.counter) w.acts p.state)
     (λ c' f' v' z s q.
     let p2 = q.1.point in
@@ -423,16 +424,16 @@ stepped_does x ls {aims} closed acts c {numbers} {p} f since jumps paid o there 
     (onward closed q.1.reach
     (λ g2 at2.
     comes_on w.acts (R.value_of around' (checked 31 (z +ℤ x.count.by)) w.acts p2.state) (λ n. stepped_next x n)
-    (comes_map (number_aims k x.labels y2) (before code aims w.acts (λ n. stepped_next x n))
+    (comes_map (number_aims k x.labels y2) (before code aims w.acts (λ n. stepped_next x n)) jumps.0
     (R.value_of around' (checked 31 (z +ℤ x.count.by)) w.acts p2.state)
     (λ c3 f3 v3 n s3 q3.
     summed_does x ls closed acts c3 (c + step_size x + 2) f3 v3 n s3 y2 q3.0 (omega (arith, since, since2)) q.1.line
     refl (omega arith) q3.1 next')
-    (λ c3 f3 v3 height label s3 q3. jumps c3 f3 v3 height label s3 (jumps_since (omega (arith, since, since2)) q3))
+    (λ c3 f3 v3 height label s3 q3. jumps.1 c3 f3 v3 height label s3 (jumps_since (omega (arith, since, since2)) q3))
     (λ c3 f3 v3 r s3 q3. absurd q3)
     (added_does (setting_in x) x.over p2 q.1.numbers (c1 + size_of read') (added_index x) g2 z x.count.by q.1.among
     q.1.line (omega (arith, need, some), x.is.held) q.0 x.is.step.wide ls.added (omega (arith, paid)) at2)))))
-    (λ c' f' v' height label s q. jumps c' f' v' height label s (jumps_since since q))
+    (λ c' f' v' height label s q. jumps.1 c' f' v' height label s (jumps_since since q))
     (λ c' f' v' r s q. absurd q)
     (x.counter.read p1 numbers 0 c1 (again_index x) g (lined_among line o) refl
     (omega (arith, need), x.is.held) ls.again (omega (arith, paid)) at)))
@@ -468,14 +469,14 @@ met_does x ls turns acts wanted debt c {numbers} {p} f since some paid o there n
     comes_on w.acts (part_of x w.acts p.state) again
     (comes_on w.acts (M.list x.block.around x.count.body w.acts p.state) step
     (comes_map (statement_aims k x.labels more (i + size_of body') (c + size_of body') x.left')
-    (before code (before code goal w.acts again) w.acts step) (M.list x.block.around x.count.body w.acts p.state)
+    (before code (before code goal w.acts again) w.acts step) refl (M.list x.block.around x.count.body w.acts p.state)
     (λ c' f' v' r s q.
     let later = q.since in
     subst (λ u. Comes code c' f' v' (before code goal w.acts again) (step tt w.acts u)) (sym q.state)
     (onward closed q.reach
     (λ g at.
     stepped_does x ls closed more (c + size_of body') g later
-    (λ c3 f3 v3 height label s3 j. jumps_on x acts wanted debt more since c3 f3 v3 height label s3 j)
+    (refl, λ c3 f3 v3 height label s3 j. jumps_on x acts wanted debt more since c3 f3 v3 height label s3 j)
     (omega (arith, paid)) q.among at
     (subst (λ n. Again x (before code goal w.acts again) more n) (omega arith) next'))))
     (λ c' f' v' height label s q. jumps_on x acts wanted debt more since c' f' v' height label s q)
@@ -594,16 +595,16 @@ due_does x ls turns acts wanted debt {numbers} {p} f since some paid owed line o
     let give' : ℤ → Meaning Bool = λ z. give (M.has_not_passed x.limit x.count.by z) in
     comes_on w.acts (M.within_limit around' (counter_of x.count) (Some x.limit) x.count.by w.acts p.state) (met_next x)
     (comes_on w.acts (V.number around' (Y.NumberIn x.count.counter) w.acts p.state) give'
-    (comes_map (number_aims k x.labels y) (before code tested w.acts give')
+    (comes_map (number_aims k x.labels y) (before code tested w.acts give') refl
     (V.number around' (Y.NumberIn x.count.counter) w.acts p.state)
     (λ c' f' v' z s q.
     let q1 = q.1.point in
     let since' = q.1.since in
     let met = M.has_not_passed x.limit x.count.by z in
     record {
-      to = subst (Comes code c' f' v' after) (sym (met_is around' met w.acts s))
+      to = λ early. subst (Comes code c' f' v' after) (sym (met_is around' met w.acts s))
           (record {
-            to = subst (λ u. Comes code c' f' v' goal (chosen x turns met w.acts u)) (sym q.1.state)
+            to = λ early. subst (λ u. Comes code c' f' v' goal (chosen x turns met w.acts u)) (sym q.1.state)
                 (onward closed q.1.reach
                 (λ g at.
                 limited_does x ls closed (0 + size_of read') g z (turned x turns) (give tt) q.0 q.1.among at
@@ -653,7 +654,7 @@ turns_do (suc turns) x ls acts wanted debt c {numbers} {p} f z wide since few pa
     λ u. (M.within_limit (around_of x) (counter_of x.count) (Some x.limit) x.count.by) >>= met_next x in
     let all' : Unit {0} → Meaning (Unit {0}) = λ u. turns_of (suc turns) x in
     comes_map (put_aims k x.labels p.state.world.acts (i0 + size_of put') (c + size_of put'))
-    (before code goal w.acts all') (assigns x z w.acts p.state)
+    (before code goal w.acts all') refl (assigns x z w.acts p.state)
     (λ c' f' v' r s q.
     let p1 = q.point in
     let since1 = q.since in

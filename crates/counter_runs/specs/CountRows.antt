@@ -17,10 +17,10 @@ use Rattle.pli_coding.specs.SignatureTable.{table_of}
 use Rattle.pli_coding.specs.Statements.{block_held, block_words}
 use Rattle.storage_relation.specs.Versions.{no_constants}
 use Rattle.activation_relation.specs.Layers.{services_of}
-use Rattle.run_steps.specs.Reach.{Comes, never}
+use Rattle.run_steps.specs.Reach.{Comes}
 use Rattle.program_runs.specs.Procedures.{Procedure, procedure_code}
 use Rattle.program_runs.specs.Rows.{row_head}
-use Rattle.program_runs.specs.Starts.{Image, first_family, image_parts, start_of, start_point}
+use Rattle.program_runs.specs.Starts.{Image, first_family, image_parts, start_of, start_point, never_in}
 use Rattle.program_runs.specs.Variables.{Declared}
 use Rattle.expression_runs.specs.Assignments.{assignment}
 use Rattle.expression_runs.specs.Variables.{Spot, number_declared, whole}
@@ -132,7 +132,7 @@ pub record CountRan : Type 0 where
   pub runs :
       (input first : List ℕ) (acts : ℕ) → acts + 1 < 2 ^ 64 → length first ≡ memory_size →
       Comes (linked_code count_code) 0 (first_family first (services_of (start_point (count_image input acts))))
-      (services_of (start_point (count_image input acts))) never
+      (services_of (start_point (count_image input acts))) (never_in (count_image input acts))
       (run count_program (suc acts) acts (first_state input))
   -- that ends in the third turn, since 2 ^ 31 has more than 31 bits
   pub ends :

@@ -14,7 +14,7 @@ use Rattle.run_steps.specs.Engine.{Base}
 use Rattle.run_steps.specs.Items.{Linked}
 use Rattle.run_steps.specs.Numbers.{IsWide}
 use Rattle.run_steps.specs.Reach.{Aims, Comes, Family, cost}
-use Rattle.block_runs.specs.Machines.{IsIn}
+use Rattle.block_runs.specs.Machines.{IsIn, limits_of}
 use Rattle.program_runs.specs.Statements.{Block, GoesOn, IsAmong, JumpsTo}
 use Rattle.expression_runs.specs.Laws as L
 use Rattle.expression_runs.specs.Values.{HasRegisters, Setting, in_registers}
@@ -23,6 +23,7 @@ use Rattle.expression_runs.specs.Values.{HasRegisters, Setting, in_registers}
 abbrev pub put_aims : Block → List Label → (acts index wanted : ℕ) → Aims (Unit {0})
 put_aims k labels acts index wanted =
     record {
+      limits = limits_of k.call.surroundings;
       done = λ c f v r s. GoesOn k acts index wanted c f v s;
       jumped = λ c f v height label s. JumpsTo k labels acts c f v height label s;
       returned = λ c f v r s. ⊥;

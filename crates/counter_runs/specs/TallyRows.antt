@@ -21,10 +21,10 @@ use Rattle.pli_coding.specs.Statements.{block_held, block_words, stmt_code}
 use Rattle.storage_relation.specs.Versions.{no_constants}
 use Rattle.activation_relation.specs.Chains.{UnitPlaces}
 use Rattle.activation_relation.specs.Layers.{services_of}
-use Rattle.run_steps.specs.Reach.{Comes, never}
+use Rattle.run_steps.specs.Reach.{Comes}
 use Rattle.program_runs.specs.Procedures.{Procedure, begin_of, procedure_code}
 use Rattle.program_runs.specs.Rows.{row_head}
-use Rattle.program_runs.specs.Starts.{Image, first_family, image_parts, start_of, start_point}
+use Rattle.program_runs.specs.Starts.{Image, first_family, image_parts, start_of, start_point, never_in}
 use Rattle.program_runs.specs.Variables.{Declared}
 use Rattle.expression_runs.specs.Assignments.{assignment}
 use Rattle.expression_runs.specs.Variables.{Spot, number_declared, whole}
@@ -206,7 +206,7 @@ pub record TallyRan : Type 0 where
   pub runs :
       (input first : List ℕ) (acts : ℕ) → acts + 1 < 2 ^ 64 → length first ≡ memory_size →
       Comes (linked_code tally_code) 0 (first_family first (services_of (start_point (tally_image input acts))))
-      (services_of (start_point (tally_image input acts))) never
+      (services_of (start_point (tally_image input acts))) (never_in (tally_image input acts))
       (run tally_program (suc acts) acts (first_state input))
   -- that ends with one condition raised, in the function that tells where the variable starts: then the unit's 0 makes
   -- it the third element, which goes from 0 to 4

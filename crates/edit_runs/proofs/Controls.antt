@@ -38,10 +38,11 @@ use Rattle.block_runs.proofs.PointGrounds.{point_ground}
 use Rattle.program_runs.specs.Statements.{Block, IsAmong}
 use Rattle.expression_runs.proofs.Words.{frame_of, valued}
 use Rattle.text_runs.proofs.TextCalls.{Asking, asks}
-use Rattle.edit_runs.specs.Edits.{AreItems, IsItem, has_data, placing, putting}
+use Rattle.edit_runs.specs.Edits.{AreItems, IsItem, Kinds, has_data, placing, putting}
 use Rattle.edit_runs.specs.Writing.{writing}
 use Rattle.edit_runs.proofs.Places.{edits_among, over_place}
 use Rattle.edit_runs.proofs.Writing.{writing_among, writing_comes}
+use Rattle.block_runs.specs.Machines.{limits_of}
 
 -- ---- what is next at a place
 
@@ -96,10 +97,10 @@ number_is (ControlFormat item) input = refl
 
 -- ---- the loop
 
--- where it stands, in which block, with the list, whose data items are of a kind, and what waits in registers; no fewer
--- acts are made there
+-- where it stands, in which block, with the list, whose data items are of these kinds, and what waits in registers; no
+-- fewer acts are made there
 pub record Loop : Type 0 where
-  pub textual : Bool
+  pub kinds : Kinds
   pub block : Block
   pub line : ℕ
   pub acts : ℕ
@@ -117,7 +118,7 @@ pub record IsLoop (z : Loop) : Type 0 where
   pub over : AreOver z.block.first.control.entries z.block.first.control.edits z.block.first.control.layers
   pub linked : Linked z.block.call.surroundings.links z.block.call.code z.index controls_carried_out
   pub paid : z.credits + 7 ≤ cost z.block.call.code
-  pub are : AreItems z.textual (list_of z)
+  pub are : AreItems z.kinds (list_of z)
   pub some : has_data (list_of z) ≡ true
 
 -- a point at which so much of the list is left
@@ -131,17 +132,23 @@ Stands z p h index rs f =
     (b : Base) →
     At b index (Known (point_ground z.block.call.surroundings p h) (services_of p) z.numbers (λ j. 0) rs b) (f b)
 
--- such a point behind the loop, where a data item is next
+-- whatever a0 tells
+pub untold :
+    (z : Loop) (p : Point) (h : frame_of z.block p) (index : ℕ) {rs : Base → List (ℕ × ℕ)} {f : Family} →
+    Stands z p h index rs f → Stands z p h index nothing f
+untold z p h index at b = record { pc = (at b).pc; holds = record { body = (at b).holds.body; regs = tt } }
+
+-- such a point behind the loop, where a data item is next: a0 tells which
 pub record Found (z : Loop) (c : ℕ) (f : Family) (v : Services) (next : DataItem × List FormatItem)
     (s : State) : Type 0
   where
     pub rest : List FormatItem
     pub left' : List FormatItem
     pub item : DataItem
-    pub fits : IsItem z.textual item
+    pub fits : IsItem z.kinds item
     pub next_is : next ≡ (item, left')
     pub current_is : current (list_of z) rest ≡ DataFormat item ∷ left'
-    pub are : AreItems z.textual left'
+    pub are : AreItems z.kinds left'
     pub point : Point
     pub frame : frame_of z.block point
     pub here : Here z rest point
@@ -151,11 +158,12 @@ pub record Found (z : Loop) (c : ℕ) (f : Family) (v : Services) (next : DataIt
     pub reach :
         Reach z.block.call.code c f v credits (services_of point)
         (λ b y. At b (z.index + 5) (Known (point_ground z.block.call.surroundings point frame) (services_of point)
-        z.numbers (λ j. 0) nothing b) y)
+        z.numbers (λ j. 0) (valued (E.data_number item)) b) y)
 
 abbrev pub found_aims : Loop → Aims (DataItem × List FormatItem)
 found_aims z =
     record {
+      limits = limits_of z.block.call.surroundings;
       done = λ c f v next s. Found z c f v next s;
       jumped = λ c f v height label s. ⊥;
       returned = λ c f v r s. ⊥;
@@ -305,9 +313,9 @@ free_by_value x = record { reserved_stay = λ y u. refl; known_stay = λ b y u q
 -- a data item is next
 abbrev DataBehind : Loop → Aims (Option (DataItem × List FormatItem)) → Type 0
 DataBehind z aims =
-    (rest left' : List FormatItem) (item : DataItem) → IsItem z.textual item → (p : Point) (h : frame_of z.block p) →
-    Here z rest p → current (list_of z) rest ≡ DataFormat item ∷ left' → AreItems z.textual left' → (c : ℕ)
-    (f : Family) → c ≤ z.credits + 5 → Stands z p h (z.index + 5) nothing f →
+    (rest left' : List FormatItem) (item : DataItem) → IsItem z.kinds item → (p : Point) (h : frame_of z.block p) →
+    Here z rest p → current (list_of z) rest ≡ DataFormat item ∷ left' → AreItems z.kinds left' → (c : ℕ)
+    (f : Family) → c ≤ z.credits + 5 → Stands z p h (z.index + 5) (valued (E.data_number item)) f →
     aims.done c f (services_of p) (Some (item, left')) p.state
 
 -- the list has ended, and begins again
@@ -329,7 +337,7 @@ are_left z (x ∷ xs) = refl
 -- behind a call, from what a0 tells on
 passes_come :
     (z : Loop) → IsLoop z → {aims : Aims (Option (DataItem × List FormatItem))}
-    (closed : Closed z.block.call.code aims) (items rest : List FormatItem) → AreItems z.textual items → {p : Point}
+    (closed : Closed z.block.call.code aims) (items rest : List FormatItem) → AreItems z.kinds items → {p : Point}
     (h : frame_of z.block p) → Here z rest p → AreLeft z rest items → (c : ℕ) (f : Family) → c ≤ z.credits + 2 →
     Stands z p h (z.index + 2) (valued (number_of (next_of z.first items))) f → DataBehind z aims →
     EndBehind z items aims →
@@ -337,17 +345,17 @@ passes_come :
     (P.controls P.control_put items z.block.call.surroundings.acts p.state)
 unfolding P.controls ◌>>◌ give
 passes_come z a closed [] rest are {p} h here is c f few at goal ended =
-    record { to = ended refl p h (subst (λ r. Here z r p) is here) c f few at }
+    record { to = λ early. ended refl p h (subst (λ r. Here z r p) is here) c f few at }
 passes_come z a closed (DataFormat item ∷ left') rest are {p} h here is c f few at goal ended =
     let r = skip_taken c f Test.NotEqual a0 zero_register back_code (back_of (service 35) asked_again a.linked) at
     (λ b. data_not_zero item _ _ (at b).holds.regs.0 (zero_is (at b).holds.body)) in
     onward closed r
     (λ g at1.
     record {
-      to = goal rest left' item are.0 p h here is are.1 (c + 3) g (omega (arith, few))
+      to = λ early. goal rest left' item are.0 p h here is are.1 (c + 3) g (omega (arith, few))
           (λ b. record {
             pc = (at1 b).pc ∙ ap (address b) (three_more z.index);
-            holds = record { body = (at1 b).holds.body; regs = tt };
+            holds = (at1 b).holds;
           });
     })
   where
@@ -376,7 +384,7 @@ passes_come z a closed (ControlFormat item ∷ left') rest are {p} h here is c f
 called_comes :
     (z : Loop) → IsLoop z → {aims : Aims (Option (DataItem × List FormatItem))}
     (closed : Closed z.block.call.code aims) (x : FormatItem) (left' rest : List FormatItem) →
-    AreItems z.textual (x ∷ left') → {p : Point} (h : frame_of z.block p) → Here z rest p →
+    AreItems z.kinds (x ∷ left') → {p : Point} (h : frame_of z.block p) → Here z rest p →
     current (list_of z) rest ≡ x ∷ left' → (f : Family) →
     Stands z p h z.index nothing f → DataBehind z aims → EndBehind z (x ∷ left') aims →
     Comes z.block.call.code z.credits f (services_of p) aims
@@ -436,10 +444,10 @@ abbrev found_again : Option (DataItem × List FormatItem) → Meaning (DataItem 
 found_again o = given o give stuck
 
 is_found :
-    (z : Loop) (rest left' : List FormatItem) (item : DataItem) → IsItem z.textual item → {p : Point}
+    (z : Loop) (rest left' : List FormatItem) (item : DataItem) → IsItem z.kinds item → {p : Point}
     (h : frame_of z.block p) → Here z rest p → current (list_of z) rest ≡ DataFormat item ∷ left' →
-    AreItems z.textual left' → (c : ℕ) (f : Family) → c ≤ z.credits + 5 → Stands z p h (z.index + 5) nothing f →
-    Found z c f (services_of p) (item, left') p.state
+    AreItems z.kinds left' → (c : ℕ) (f : Family) → c ≤ z.credits + 5 →
+    Stands z p h (z.index + 5) (valued (E.data_number item)) f → Found z c f (services_of p) (item, left') p.state
 is_found z rest left' item fits {p} h here is are c f few at =
     record {
       rest = rest;
@@ -459,7 +467,7 @@ is_found z rest left' item fits {p} h here is are c f few at =
     }
 
 pub next_comes :
-    (z : Loop) → IsLoop z → (rest : List FormatItem) → AreItems z.textual rest → {p : Point} (h : frame_of z.block p) →
+    (z : Loop) → IsLoop z → (rest : List FormatItem) → AreItems z.kinds rest → {p : Point} (h : frame_of z.block p) →
     Here z rest p → (f : Family) → Stands z p h z.index nothing f →
     Comes z.block.call.code z.credits f (services_of p) (found_aims z)
     (P.next_item P.control_put (list_of z) rest z.block.call.surroundings.acts p.state)
@@ -470,7 +478,7 @@ next_comes z a [] are {p} h here f at =
     comes_on w.acts (P.controls P.control_put (list_of z) w.acts p.state) found_again
     (called_comes z a (before_closed w.acts found_again closed) z.first z.more [] a.are h here refl f at
     (λ rest left' item fits p' h' here' is are' c g few at'.
-    record { to = is_found z rest left' item fits h' here' is are' c g few at' })
+    record { to = λ early. is_found z rest left' item fits h' here' is are' c g few at' })
     (λ none. absurd (true_not_false (has_data (list_of z)) a.some none)))
 next_comes z a (x ∷ left0) are {p} h here f at =
     let w = z.block.call.surroundings in
@@ -481,10 +489,10 @@ next_comes z a (x ∷ left0) are {p} h here f at =
     comes_on w.acts (P.controls P.control_put (x ∷ left0) w.acts p.state) next'
     (called_comes z a (before_closed w.acts next' closed) x left0 (x ∷ left0) are h here refl f at
     (λ rest left' item fits p' h' here' is are' c g few at'.
-    record { to = is_found z rest left' item fits h' here' is are' c g few at' })
+    record { to = λ early. is_found z rest left' item fits h' here' is are' c g few at' })
     (λ none p' h' here' c g few at'.
     comes_on w.acts (P.controls P.control_put (list_of z) w.acts p'.state) found_again
     (passes_come z a (before_closed w.acts found_again closed) (list_of z) [] a.are h' here' refl c g few at'
     (λ rest left' item fits p2 h2 here2 is are2 c2 g2 few2 at2.
-    record { to = is_found z rest left' item fits h2 here2 is are2 c2 g2 few2 at2 })
+    record { to = λ early. is_found z rest left' item fits h2 here2 is are2 c2 g2 few2 at2 })
     (λ none2. absurd (true_not_false (has_data (list_of z)) a.some none2)))))

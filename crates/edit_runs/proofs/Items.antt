@@ -1,14 +1,12 @@
 -- A number of PUT EDIT: it is evaluated, and its field is tested and written; and one behind the other.
 use Rattle.std.proofs.Common.{◌≡◌, ℕ, ◌+◌, ◌^◌, ◌<◌, ◌≤◌, List, [], ◌∷◌, ◌++◌, Option, Some, None}
-use Rattle.std.proofs.Common.{Bool, true, false, refl, sym, ap, ◌∙◌, subst, arith, lit<}
+use Rattle.std.proofs.Common.{true, refl, ap, ◌∙◌, subst, arith, lit<}
 use Rattle.std.proofs.lemmas.Bool.Decides.{nat_tests}
 use Rattle.std.proofs.lemmas.Int.{ints}
-use Rattle.std.specs.Prelude.{ℤ, cond, not, ◌&&◌}
+use Rattle.std.specs.Prelude.{ℤ}
 use Rattle.rv_meaning.specs.declared.instr.Instr.TheVariants as I
-use Rattle.rv_meaning.specs.declared.instr.BranchTest.TheVariants as Test
 use Rattle.rv_meaning.specs.Words.{signed, word}
 use Rattle.pli_language.specs.Tree as T
-use Rattle.pli_typing.specs.TypedTree as Y
 use Rattle.pli_meaning.specs.Codes.{too_wide_code}
 use Rattle.pli_meaning.specs.Control.{Flow, Label, Meaning, act, give, ◌>>=◌, ◌>>◌}
 use Rattle.pli_meaning.specs.Evaluating.{ComputationalNumber}
@@ -23,12 +21,10 @@ use Rattle.pli_serving.specs.Edits as E
 use Rattle.pli_serving.specs.Finding.{Call}
 use Rattle.pli_serving.specs.ServiceState.{EditPlace, Services}
 use Rattle.pli_coding.specs.Assembly.{Code, Plain, size_of}
-use Rattle.pli_coding.specs.Environments.{fetch, none_taken, save}
-use Rattle.pli_coding.specs.Expressions.{number_code}
-use Rattle.pli_coding.specs.Instructions.{choice, service, small, tested_service}
-use Rattle.pli_coding.specs.Registers.{a0, a1, a7, held_registers, u1}
-use Rattle.pli_coding.specs.Streams as C
-use Rattle.pli_coding.specs.Streams.{controls_carried_out, has_fixed, has_text, number_written}
+use Rattle.pli_coding.specs.Environments.{fetch, none_taken}
+use Rattle.pli_coding.specs.Instructions.{service, small, tested_service}
+use Rattle.pli_coding.specs.Registers.{a0, a1, a7, held_registers}
+use Rattle.pli_coding.specs.Streams.{number_written}
 use Rattle.activation_relation.specs.Layers.{Point, services_of}
 use Rattle.activation_relation.specs.Points.{AreOver}
 use Rattle.run_steps.specs.Bodies.{Free, Known}
@@ -45,22 +41,21 @@ use Rattle.run_steps.proofs.Numbers.{word_small}
 use Rattle.run_steps.specs.Reach.{Aims, Closed, Comes, Family, Reach, before, cost}
 use Rattle.run_steps.proofs.Reach.{before_closed, comes_on, onward, reach_then, stay}
 use Rattle.run_steps.specs.Temporaries.{nothing}
-use Rattle.block_runs.specs.Machines.{IsIn}
+use Rattle.block_runs.specs.Machines.{IsIn, limits_of}
 use Rattle.block_runs.proofs.BlockEntries.{small_is}
-use Rattle.block_runs.proofs.CallStatements.{comes_map}
 use Rattle.block_runs.proofs.PointGrounds.{in_known, point_ground}
-use Rattle.program_runs.specs.Statements.{Block, IsAmong, JumpsTo, set_aside}
+use Rattle.program_runs.specs.Statements.{Block, IsAmong, JumpsTo}
 use Rattle.program_runs.proofs.JumpsOut.{jumps_later, jumps_since}
 use Rattle.expression_runs.specs.Assignments.{setting_around}
 use Rattle.expression_runs.specs.Values.{Setting}
-use Rattle.expression_runs.proofs.Saving.{fetched_reach, held_after, held_among, held_is_given, saved_reach}
+use Rattle.expression_runs.proofs.Saving.{fetched_reach}
 use Rattle.expression_runs.proofs.Words.{frame_of, valued}
 use Rattle.text_runs.specs.Texts.{ErrorComes}
 use Rattle.text_runs.proofs.TextCalls.{three, told, two}
 use Rattle.text_runs.proofs.Tested.{Place, Tested, tested_comes}
-use Rattle.edit_runs.specs.Edits.{AreItems, IsItem, Item, has_data, placing, putting, within}
+use Rattle.edit_runs.specs.Edits.{AreItems, has_data, kinds_of, placing, putting, within}
 use Rattle.edit_runs.specs.Writing.{writing}
-use Rattle.edit_runs.proofs.Controls.{Finds, Loop, current, current_found, found_aims, next_comes}
+use Rattle.edit_runs.proofs.Controls.{Finds, current, current_found}
 use Rattle.edit_runs.proofs.Places.{edits_among, jumps_down, over_place}
 use Rattle.edit_runs.proofs.Writing.{writing_among, writing_comes}
 
@@ -69,10 +64,9 @@ signed-word z h = grind (arith, ints, nat_tests)
 
 -- ---- the code of one number
 
--- what is put, texts by A or numbers by F, where, how many words are set aside there, and how much a call in it may
+-- what is put, where, how many words are set aside there, and how much a call in it may
 -- take to its first act
 pub record Puts : Type 0 where
-  pub textual : Bool
   pub words : ℕ
   pub block : Block
   pub labels : List Label
@@ -92,32 +86,11 @@ whole_in u = u.first ∷ u.more
 pub record ArePut (u : Puts) : Type 0 where
   pub acts : u.block.call.surroundings.acts + 1 < 2 ^ 64
   pub over : AreOver u.block.first.control.entries u.block.first.control.edits u.block.first.control.layers
-  pub fixed : has_fixed u.formats ≡ not u.textual
-  pub text : has_text u.formats ≡ u.textual
-  pub are : AreItems u.textual (whole_in u)
+  pub are : AreItems (kinds_of u.formats) (whole_in u)
   pub some : has_data (whole_in u) ≡ true
   pub registers : u.need ≤ u.block.registers
-  pub one : 1 ≤ u.block.registers
   pub held : u.block.registers ≤ held_registers
   pub error : (place : EditPlace) → ErrorComes (List ℕ) (within place (setting_in u))
-
-abbrev pub number_shown : Code
-number_shown = save a0 none_taken ++ (controls_carried_out ++ (fetch a0 none_taken ++ number_written))
-
-abbrev pub item_code : Puts → Item → Code
-item_code u x = number_code u.block.environment (set_aside u.words) x.source ++ number_shown
-
--- lists of F items have no other code
-pub item_coded : (u : Puts) → u.textual ≡ false → ArePut u → (x : Item) →
-    C.value_put u.block.environment (set_aside u.words) u.formats (Y.NumberValue x.precision x.source) ≡ item_code u x
-item_coded u numbers a x =
-    let shows = fetch a0 none_taken ++ number_written in
-    let texts = fetch a0 none_taken ++ (C.as_text x.precision ++ C.text_written) in
-    let rest : Code → Code = λ c. number_code u.block.environment (set_aside u.words) x.source
-    ++ (save a0 none_taken ++ (controls_carried_out ++ c)) in
-    let both = small u1 1 ∷ choice Test.Equal a0 u1 shows texts in
-    ap (λ q. rest (cond (q && has_text u.formats) both (cond q shows texts))) (a.fixed ∙ ap not numbers)
-    ∙ ap (λ q. rest (cond (true && q) both shows)) (a.text ∙ numbers)
 
 -- ---- its field
 
@@ -131,7 +104,7 @@ pub record HasLeft (u : Puts) (acts index wanted : ℕ) (left : List FormatItem)
     pub since : acts ≤ point.state.world.acts
     pub line : point.control.line ≡ u.line
     pub state : s ≡ point.state
-    pub are : AreItems u.textual left
+    pub are : AreItems (kinds_of u.formats) left
     pub reach :
         Reach u.block.call.code c f v wanted (services_of point)
         (λ b y. IsIn u.block.call.surroundings point numbers index b y)
@@ -139,6 +112,7 @@ pub record HasLeft (u : Puts) (acts index wanted : ℕ) (left : List FormatItem)
 abbrev pub left_aims : Puts → (acts index wanted : ℕ) → Aims (List FormatItem)
 left_aims u acts index wanted =
     record {
+      limits = limits_of u.block.call.surroundings;
       done = λ c f v left s. HasLeft u acts index wanted left c f v s;
       jumped = λ c f v height label s. JumpsTo u.block u.labels acts c f v height label s;
       returned = λ c f v r s. ⊥;
@@ -217,7 +191,7 @@ pub record IsReady (u : Puts) (r : Ready) (h : frame_of u.block r.point) (rs : B
     pub among : IsAmong (placing (place_of u r.rest) u.block) r.numbers r.point
     pub line : r.point.control.line ≡ u.line
     pub next : current (whole_in u) r.rest ≡ DataFormat (FixedItem r.width) ∷ r.left'
-    pub are : AreItems u.textual r.left'
+    pub are : AreItems (kinds_of u.formats) r.left'
     pub wide : IsWide r.z
     pub linked : Linked u.block.call.surroundings.links u.block.call.code r.index code
     pub paid : r.credits + size_of code + u.most ≤ cost u.block.call.code
@@ -314,7 +288,7 @@ field_comes u a r h acts' wanted is field wide since =
     (r.credits + 2) wanted g h is.among.stands (omega (arith, paid)) at calling
     (λ f' less at'.
     record {
-      to = record {
+      to = λ early. record {
         point = shown_point u r field;
         numbers = r.numbers;
         among = field_among u a r is field less;
@@ -334,7 +308,7 @@ field_comes u a r h acts' wanted is field wide since =
 -- ---- the field's width is tested first
 
 -- from the number's word in a0 on
-number_comes :
+pub number_comes :
     (u : Puts) → ArePut u → (r : Ready) (h : frame_of u.block r.point) (acts' wanted : ℕ) →
     IsReady u r h (valued (word r.z)) number_written → acts' ≤ r.point.state.world.acts →
     Comes u.block.call.code r.credits r.family (services_of r.point)
@@ -394,7 +368,7 @@ number_comes u a r h acts' wanted is since =
       texts = λ field. p.control.entries;
       result = λ field b. x;
     } in
-    tested_comes place asked closed h
+    tested_comes place asked closed refl h
     (record {
       among = is.among;
       line = is.line;
@@ -445,11 +419,12 @@ number_comes u a r h acts' wanted is since =
     six : (i : ℕ) → i + 1 + 5 ≡ i + 6
     six i = omega arith
 
--- ---- one number
+-- ---- where a number waits, and an item is next
 
--- it has been evaluated, and so much of the list is left
-pub record Valued : Type 0 where
+-- so much of the list is left, and behind the item
+pub record Chosen : Type 0 where
   pub rest : List FormatItem
+  pub left' : List FormatItem
   pub point : Point
   pub numbers : ℕ → ℕ
   pub z : ℤ
@@ -457,128 +432,71 @@ pub record Valued : Type 0 where
   pub index : ℕ
   pub family : Family
 
--- its word is in a0
-pub record IsValued (u : Puts) (r : Valued) (h : frame_of u.block r.point) : Type 0 where
-  pub among : IsAmong (placing (place_of u r.rest) u.block) r.numbers r.point
-  pub line : r.point.control.line ≡ u.line
-  pub are : AreItems u.textual r.rest
-  pub wide : IsWide r.z
-  pub linked : Linked u.block.call.surroundings.links u.block.call.code r.index number_shown
-  pub paid : r.credits + size_of number_shown + u.most ≤ cost u.block.call.code
-  pub there :
-      (b : Base) →
-      At b r.index (Known (point_ground u.block.call.surroundings r.point h) (services_of r.point) r.numbers (λ j. 0)
-      (valued (word r.z)) b) (r.family b)
+pub record IsChosen (u : Puts) (item : DataItem) (r : Chosen) (h : frame_of u.block r.point) (code : Code)
+    (acts' : ℕ) : Type 0
+  where
+    pub among : IsAmong (placing (place_of u r.rest) u.block) r.numbers r.point
+    pub line : r.point.control.line ≡ u.line
+    pub next : current (whole_in u) r.rest ≡ DataFormat item ∷ r.left'
+    pub are : AreItems (kinds_of u.formats) r.left'
+    pub wide : IsWide r.z
+    pub waits : r.numbers 0 ≡ word r.z
+    pub since : acts' ≤ r.point.state.world.acts
+    pub linked : Linked u.block.call.surroundings.links u.block.call.code r.index code
+    pub paid : r.credits + size_of code + u.most ≤ cost u.block.call.code
+    pub there :
+        (b : Base) →
+        At b r.index (Known (point_ground u.block.call.surroundings r.point h) (services_of r.point) r.numbers
+        (λ j. 0) nothing b) (r.family b)
 
--- an F item of such a list
-fixed_item : (textual : Bool) (item : DataItem) → textual ≡ false → IsItem textual item →
-    (width : ℕ) × (item ≡ FixedItem width)
-fixed_item false (FixedItem width) e is = (width, refl)
-fixed_item false (TextItem width) e is = absurd is
-fixed_item true item e is = absurd (cc e)
+abbrev pub by_fixed : Code
+by_fixed = fetch a0 none_taken ++ number_written
 
-pub valued_comes :
-    (u : Puts) → u.textual ≡ false → ArePut u → (x : Item) (r : Valued) (h : frame_of u.block r.point)
-    (acts' wanted i : ℕ) → IsValued u r h → acts' ≤ r.point.state.world.acts → r.index + size_of number_shown ≡ i →
+-- by F
+pub fixed_branch :
+    (u : Puts) → ArePut u → 1 ≤ u.block.registers → (precision width : ℕ) (r : Chosen) (h : frame_of u.block r.point)
+    (acts' wanted i : ℕ) → IsChosen u (FixedItem width) r h by_fixed acts' → r.index + size_of by_fixed ≡ i →
     Comes u.block.call.code r.credits r.family (services_of r.point) (left_aims u acts' i wanted)
-    (((P.next_item P.control_put (whole_in u) r.rest)
-    >>= (λ next. (P.shown_by (setting_in u).around (ComputationalNumber x.precision r.z) next.0) >> give next.1))
+    (((P.shown_by (setting_in u).around (ComputationalNumber precision r.z) (FixedItem width)) >> give r.left')
     u.block.call.surroundings.acts r.point.state)
 unfolding P.shown_by R.or_error ◌>>=◌ ◌>>◌ give
-valued_comes u numbers a x r h acts' wanted i is since end =
+fixed_branch u a one precision width r h acts' wanted i is end =
     let w = u.block.call.surroundings in
     let code = u.block.call.code in
-    let p = r.point in
-    let s = within (place_of u r.rest) (setting_in u) in
-    let z = r.z in
-    let small' = word_small z is.wide in
+    let small' = word_small r.z is.wide in
     let paid = is.paid in
-    let one = a.one in
     let registers : (0 + 1 ≤ u.block.registers) × (u.block.registers ≤ held_registers) = (omega (arith, one), a.held) in
-    let put' = save a0 none_taken in
     let back = fetch a0 none_taken in
-    let n1 = size_append put' (controls_carried_out ++ (back ++ number_written)) in
-    let n2 = size_append controls_carried_out (back ++ number_written) in
     let n3 = size_append back number_written in
-    let l1 = back_of put' (controls_carried_out ++ (back ++ number_written)) is.linked in
-    let l2 = back_of controls_carried_out (back ++ number_written) l1 in
-    let numbers' = held_after r.numbers 0 (word z) in
     let free : Free nothing 10 = record { reserved_stay = λ y t. refl; known_stay = λ b y t q. q; set = λ y t. refl } in
     let far : Free nothing 31 = record { reserved_stay = λ y t. refl; known_stay = λ b y t q. q; set = λ y t. refl } in
-    let goal = left_aims u acts' i wanted in
-    let closed = left_closed u acts' i wanted in
-    let loop : Loop = record {
-      textual = u.textual;
-      block = u.block;
-      line = u.line;
-      acts = acts';
-      first = u.first;
-      more = u.more;
-      numbers = numbers';
-      index = r.index + size_of put';
-      credits = r.credits + size_of put';
-    } in
-    let next' : DataItem × List FormatItem → Meaning (List FormatItem) =
-    λ next. (P.shown_by (setting_in u).around (ComputationalNumber x.precision z) next.0) >> give next.1 in
-    let flow = P.next_item P.control_put (whole_in u) r.rest w.acts p.state in
-    onward closed
-    (saved_reach s 0 0 h registers r.credits r.family (word z) small'
-    (front_of put' (controls_carried_out ++ (back ++ number_written)) is.linked) is.there)
+    let last : Unit {0} → Meaning (List FormatItem) = λ t. give r.left' in
+    onward (left_closed u acts' i wanted)
+    (fetched_reach (within (place_of u r.rest) (setting_in u)) 0 0 h registers r.credits r.family a0 (word r.z) small'
+    is.waits free far (front_of back number_written is.linked) is.there)
     (λ g at.
-    comes_on w.acts flow next'
-    (comes_map (found_aims loop) (before code goal w.acts next') flow
-    (λ c1 f1 v1 next s1 o.
-    let few = o.few in
-    let item = fixed_item u.textual o.item numbers o.fits in
-    let last : Unit {0} → Meaning (List FormatItem) = λ t. give o.left' in
-    subst (λ n. Comes code c1 f1 v1 goal (next' n w.acts s1)) (sym (o.next_is ∙ ap (λ j. (j, o.left')) item.1))
-    (subst (λ s2. Comes code c1 f1 v1 goal (next' (FixedItem item.0, o.left') w.acts s2)) (sym o.state)
-    (onward closed o.reach
-    (λ g2 at2.
-    onward closed
-    (fetched_reach (within (place_of u o.rest) (setting_in u)) 0 0 o.frame registers o.credits g2 a0 (word z) small'
-    (held_is_given r.numbers 0 (word z)) free far (front_of back number_written l2) at2)
-    (λ g3 at3.
     let r' : Ready = record {
-      rest = o.rest;
-      width = item.0;
-      left' = o.left';
-      point = o.point;
-      numbers = numbers';
-      z = z;
-      credits = o.credits + size_of back;
-      index = r.index + size_of put' + 5 + size_of back;
-      family = g3;
+      rest = r.rest;
+      width = width;
+      left' = r.left';
+      point = r.point;
+      numbers = r.numbers;
+      z = r.z;
+      credits = r.credits + size_of back;
+      index = r.index + size_of back;
+      family = g;
     } in
-    moved_flow u acts' wanted (r'.index + 9) i (omega (arith, n1, n2, n3, end))
+    moved_flow u acts' wanted (r'.index + 9) i (omega (arith, n3, end))
     (comes_on w.acts _ last
-    (number_comes u a r' o.frame acts' wanted
+    (number_comes u a r' h acts' wanted
     (record {
-      among = o.here.among;
-      line = o.here.line;
-      next = o.current_is ∙ ap (λ j. DataFormat j ∷ o.left') item.1;
-      are = o.are;
-      wide = is.wide;
-      linked = back_of back number_written l2;
-      paid = omega (arith, paid, few, n1, n2, n3);
-      there = at3;
-    })
-    o.here.since)))))))
-    (λ c1 f1 v1 height label s1 q. absurd q)
-    (λ c1 f1 v1 r' s1 q. absurd q)
-    (next_comes loop
-    (record {
-      acts = a.acts;
-      over = a.over;
-      linked = front_of controls_carried_out (back ++ number_written) l1;
-      paid = omega (arith, paid, n1, n2, n3);
-      are = a.are;
-      some = a.some;
-    })
-    r.rest is.are h
-    (record {
-      among = held_among s 0 1 (word z) registers (omega arith) small' is.among;
-      since = since;
+      among = is.among;
       line = is.line;
+      next = is.next;
+      are = is.are;
+      wide = is.wide;
+      linked = back_of back number_written is.linked;
+      paid = omega (arith, paid, n3);
+      there = at;
     })
-    g at)))
+    is.since)))

@@ -2,10 +2,14 @@ pub mod Writing
 pub mod Skips
 pub mod Places
 pub mod Controls
+pub mod ListKinds
 pub mod Items
+pub mod Choices
+pub mod TextFields
 pub mod Puts
 pub mod TextItems
-pub mod NumberTexts
+pub mod NumberItems
 pub mod DataPuts
+pub mod MixedPuts
 pub mod SkipRows
 pub mod FormatRows

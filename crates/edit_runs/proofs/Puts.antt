@@ -1,13 +1,11 @@
 -- PUT EDIT: lines end, if any; for each list its place begins, its items are shown one behind the other, and it ends.
 use Rattle.std.proofs.Common.{◌≡◌, ℕ, ◌+◌, ◌^◌, ◌<◌, ◌≤◌, List, [], ◌∷◌, ◌++◌, None, Some, refl, sym, ap, ◌∙◌}
-use Rattle.std.proofs.Common.{subst, arith, lit<, false, true, Bool}
-use Rattle.std.specs.Prelude.{ℤ, Option, not, ⊤}
+use Rattle.std.proofs.Common.{subst, arith, lit<, true}
+use Rattle.std.specs.Prelude.{Option, ⊤}
 use Rattle.rv_meaning.specs.declared.instr.Instr.TheVariants as I
 use Rattle.pli_language.specs.Tree as T
 use Rattle.pli_typing.specs.TypedTree as Y
 use Rattle.pli_meaning.specs.Control.{Label, Meaning, act, give, ◌>>=◌, ◌>>◌}
-use Rattle.pli_meaning.specs.Evaluating as V
-use Rattle.pli_meaning.specs.Evaluating.{Computational, ComputationalNumber}
 use Rattle.pli_meaning.specs.Executing as M
 use Rattle.pli_meaning.specs.Raising.{at_line}
 use Rattle.pli_meaning.specs.Streaming as P
@@ -19,7 +17,6 @@ use Rattle.pli_serving.specs.Outcomes.{or_bad}
 use Rattle.pli_serving.specs.ServiceState.{EditPlace, Putting}
 use Rattle.pli_coding.specs.Allocating.{act_code}
 use Rattle.pli_coding.specs.Assembly.{Code, DataPlace, OffsetOf, Plain, size_of}
-use Rattle.pli_coding.specs.Expressions.{number_code}
 use Rattle.pli_coding.specs.Instructions.{small}
 use Rattle.pli_coding.specs.Linking.{place_of}
 use Rattle.pli_coding.specs.Registers.{a0, a1, a7, held_registers}
@@ -45,29 +42,24 @@ use Rattle.run_steps.specs.Reach.{Aims, Closed, Comes, Family, Reach, before, co
 use Rattle.run_steps.proofs.Reach.{before_closed, comes_on, onward, reach_then, reached_holds, stay}
 use Rattle.run_steps.proofs.Reaching.{reach_moved}
 use Rattle.run_steps.specs.Temporaries.{nothing}
-use Rattle.block_runs.specs.Machines.{AreIn, IsIn}
+use Rattle.block_runs.specs.Machines.{AreIn, IsIn, limits_of}
 use Rattle.block_runs.proofs.BlockEntries.{small_is}
 use Rattle.block_runs.proofs.PointActs.{act_comes}
 use Rattle.block_runs.proofs.CallStatements.{comes_map}
 use Rattle.block_runs.proofs.PointGrounds.{in_known, known_in, point_frame, point_ground}
 use Rattle.program_runs.specs.Statements.{Block, DoesWith, HasAct, IsAmong, JumpsTo, set_aside, size_with}
 use Rattle.program_runs.specs.Statements.{statement_aims}
-use Rattle.program_runs.proofs.JumpsOut.{jumps_later, jumps_repaid, jumps_since}
+use Rattle.program_runs.proofs.JumpsOut.{jumps_later, jumps_repaid}
 use Rattle.program_runs.proofs.Statements.{acted_among, goes_here, statement_closed}
 use Rattle.program_runs.proofs.Waiting.{over_first}
-use Rattle.expression_runs.specs.Laws as L
 use Rattle.expression_runs.specs.Assignments.{setting_around}
-use Rattle.expression_runs.specs.Values.{behind, number_aims}
-use Rattle.expression_runs.proofs.Words.{frame_of, known_word}
+use Rattle.expression_runs.proofs.Words.{frame_of}
 use Rattle.text_runs.specs.Texts.{ErrorComes}
 use Rattle.text_runs.proofs.TextCalls.{Asking, asks}
-use Rattle.edit_runs.specs.Edits.{AreFixed, AreItems, AreListed, IsFixed, IsPut, IsSkipped, Item, ItemsDo}
-use Rattle.edit_runs.specs.Edits.{KnowsFormats, Pair, PairsDo, Put, has_data, placing, put_items, put_of, put_pairs}
-use Rattle.edit_runs.specs.Edits.{putting, within}
+use Rattle.edit_runs.specs.Edits.{AreItems, IsSkipped, Item, KnowsFormats, has_data, kinds_of, placing, putting, within}
 use Rattle.edit_runs.specs.Writing.{with_edits}
-use Rattle.edit_runs.proofs.Items.{ArePut, HasLeft, Puts, item_code, item_coded, left_aims, left_closed}
-use Rattle.edit_runs.proofs.Items.{number_shown, setting_in, valued_comes, whole_in}
-use Rattle.edit_runs.proofs.Places.{edits_among, edits_in, jumps_down, over_place}
+use Rattle.edit_runs.proofs.Items.{ArePut, HasLeft, Puts, left_aims, left_closed, setting_in, whole_in}
+use Rattle.edit_runs.proofs.Places.{edits_among, edits_in, over_place}
 use Rattle.edit_runs.proofs.Skips.{item_of, skip_comes}
 use Rattle.edit_runs.proofs.Writing.{writing_among}
 
@@ -88,12 +80,12 @@ pub record Due : Type 0 where
 pub record IsDue (u : Puts) (d : Due) (acts' size : ℕ) : Type 0 where
   pub among : IsAmong (placing (putting (whole_in u) d.rest) u.block) d.numbers d.point
   pub line : d.point.control.line ≡ u.line
-  pub are : AreItems u.textual d.rest
+  pub are : AreItems (kinds_of u.formats) d.rest
   pub since : acts' ≤ d.point.state.world.acts
   pub paid : d.credits + size + u.most ≤ cost u.block.call.code
   pub there : AreIn u.block.call.surroundings d.point d.numbers d.index d.family
 
--- what its code does, wherever the list is
+-- what its code does, wherever the list is; behind the code by A there may be a jump
 abbrev pub ItemGoes : Puts → Y.PutItem → Type 0
 ItemGoes u x =
     (d : Due) (acts' wanted i : ℕ) →
@@ -101,92 +93,9 @@ ItemGoes u x =
     Linked u.block.call.surroundings.links u.block.call.code d.index
     (C.item_put u.block.environment (set_aside u.words) u.formats x) →
     d.index + size_of (C.item_put u.block.environment (set_aside u.words) u.formats x) ≡ i →
+    size_of (C.item_put u.block.environment (set_aside u.words) u.formats x) ≤ wanted →
     Comes u.block.call.code d.credits d.family (services_of d.point) (left_aims u acts' i wanted)
     (P.item_put (setting_in u).around (whole_in u) d.rest x u.block.call.surroundings.acts d.point.state)
-
-item_comes :
-    (u : Puts) → u.textual ≡ false → ArePut u → (x : Item) →
-    ((place : EditPlace) → L.Does (within place (setting_in u)) u.need x.source) →
-    (d : Due) (acts' wanted i : ℕ) → IsDue u d acts' (size_of (item_code u x)) →
-    Linked u.block.call.surroundings.links u.block.call.code d.index (item_code u x) →
-    d.index + size_of (item_code u x) ≡ i →
-    Comes u.block.call.code d.credits d.family (services_of d.point) (left_aims u acts' i wanted)
-    (P.item_put (setting_in u).around (whole_in u) d.rest (put_item x) u.block.call.surroundings.acts d.point.state)
-unfolding P.item_put V.computational ◌>>=◌ give
-item_comes u numbers a x does d acts' wanted i is l end =
-    let w = u.block.call.surroundings in
-    let code = u.block.call.code in
-    let p = d.point in
-    let around = (setting_in u).around in
-    let place = putting (whole_in u) d.rest in
-    let part = number_code u.block.environment (set_aside u.words) x.source in
-    let n0 = size_append part number_shown in
-    let y = behind p d.numbers 0 d.credits d.index part in
-    let goal = left_aims u acts' i wanted in
-    let paid = is.paid in
-    let since = is.since in
-    let flow = V.number around x.source w.acts p.state in
-    let next0 : ℤ → Meaning Computational = λ z. give (ComputationalNumber x.precision z) in
-    let next1 : Computational → Meaning (List FormatItem) =
-    λ v. (P.next_item P.control_put (whole_in u) d.rest) >>= (λ next. (P.shown_by around v next.0) >> give next.1) in
-    comes_on w.acts (V.computational around (Y.NumberValue x.precision x.source) w.acts p.state) next1
-    (comes_on w.acts flow next0
-    (comes_map (number_aims (placing place u.block) [] y) (before code (before code goal w.acts next1) w.acts next0)
-    flow
-    (λ c1 f1 v1 z s1 q.
-    let o = q.1 in
-    let more = o.since in
-    let h = point_frame o.among.stands o.among.image in
-    record {
-      to = subst (λ s. Comes code c1 f1 v1 goal (next1 (ComputationalNumber x.precision z) w.acts s)) (sym o.state)
-          (onward (left_closed u acts' i wanted) o.reach
-          (λ g at.
-          valued_comes u numbers a x
-          (record {
-            rest = d.rest;
-            point = o.point;
-            numbers = o.numbers;
-            z = z;
-            credits = y.wanted;
-            index = y.index;
-            family = g;
-          })
-          h acts' wanted i
-          (record {
-            among = o.among;
-            line = o.line ∙ is.line;
-            are = is.are;
-            wide = q.0;
-            linked = back_of part number_shown l;
-            paid = omega (arith, paid, n0);
-            there = λ b. known_word u.block h (at b);
-          })
-          (omega (arith, since, more)) (omega (arith, n0, end))));
-    })
-    (λ c1 f1 v1 height label s q. jumps_since since (jumps_down place u.block u.labels q))
-    (λ c1 f1 v1 r s q. absurd q)
-    (does place p d.numbers 0 d.credits d.index d.family is.among is.line
-    (let room = a.registers in omega (arith, room), a.held) (front_of part number_shown l)
-    (omega (arith, paid, n0)) is.there)))
-
--- so does a number by F
-pub number_goes :
-    (u : Puts) → u.textual ≡ false → ArePut u → (x : Item) →
-    ((place : EditPlace) → L.Does (within place (setting_in u)) u.need x.source) → ItemGoes u (put_item x)
-number_goes u numbers a x does d acts' wanted i is l end =
-    let same = item_coded u numbers a x in
-    let n1 = ap (λ c. size_of c) same in
-    let paid = is.paid in
-    item_comes u numbers a x does d acts' wanted i
-    (record {
-      among = is.among;
-      line = is.line;
-      are = is.are;
-      since = is.since;
-      paid = omega (arith, paid, n1);
-      there = is.there;
-    })
-    (subst (Linked u.block.call.surroundings.links u.block.call.code d.index) same l) (omega (arith, n1, end))
 
 -- ---- one behind the other
 
@@ -197,6 +106,7 @@ AllGo u (x ∷ xs) = ItemGoes u x × AllGo u xs
 abbrev items_aims : Puts → (acts' index wanted : ℕ) → Aims (Unit {0})
 items_aims u acts' index wanted =
     record {
+      limits = limits_of u.block.call.surroundings;
       done = λ c f v t s. (left' : List FormatItem) × HasLeft u acts' index wanted left' c f v s;
       jumped = λ c f v height label s. JumpsTo u.block u.labels acts' c f v height label s;
       returned = λ c f v r s. ⊥;
@@ -220,11 +130,11 @@ items_comes :
     (u : Puts) (x : Y.PutItem) (xs : List Y.PutItem) → AllGo u (x ∷ xs) → (d : Due) (acts' wanted i : ℕ) →
     IsDue u d acts' (size_of (items_code u (x ∷ xs))) →
     Linked u.block.call.surroundings.links u.block.call.code d.index (items_code u (x ∷ xs)) →
-    d.index + size_of (items_code u (x ∷ xs)) ≡ i →
+    d.index + size_of (items_code u (x ∷ xs)) ≡ i → size_of (items_code u (x ∷ xs)) ≤ wanted →
     Comes u.block.call.code d.credits d.family (services_of d.point) (items_aims u acts' i wanted)
     (P.items_put (setting_in u).around (whole_in u) d.rest (x ∷ xs) u.block.call.surroundings.acts d.point.state)
 unfolding P.items_put ◌>>=◌ give
-items_comes u x [] go d acts' wanted i is l end =
+items_comes u x [] go d acts' wanted i is l end enough =
     let w = u.block.call.surroundings in
     let code = u.block.call.code in
     let around = (setting_in u).around in
@@ -234,8 +144,8 @@ items_comes u x [] go d acts' wanted i is l end =
     let flow = P.item_put around (whole_in u) d.rest x w.acts d.point.state in
     let next' : List FormatItem → Meaning (Unit {0}) = λ rest. P.items_put around (whole_in u) rest [] in
     comes_on w.acts flow next'
-    (comes_map (left_aims u acts' i wanted) (before code (items_aims u acts' i wanted) w.acts next') flow
-    (λ c1 f1 v1 left' s o. record { to = (left', o) })
+    (comes_map (left_aims u acts' i wanted) (before code (items_aims u acts' i wanted) w.acts next') refl flow
+    (λ c1 f1 v1 left' s o. record { to = λ early. (left', o) })
     (λ c1 f1 v1 height label s q. q)
     (λ c1 f1 v1 r s q. absurd q)
     (go.0 d acts' wanted i
@@ -247,8 +157,8 @@ items_comes u x [] go d acts' wanted i is l end =
       paid = omega (arith, paid, n0);
       there = is.there;
     })
-    (front_of one [] l) (omega (arith, n0, end))))
-items_comes u x (x' ∷ xs) go d acts' wanted i is l end =
+    (front_of one [] l) (omega (arith, n0, end)) (omega (arith, n0, enough))))
+items_comes u x (x' ∷ xs) go d acts' wanted i is l end enough =
     let w = u.block.call.surroundings in
     let code = u.block.call.code in
     let around = (setting_in u).around in
@@ -261,13 +171,13 @@ items_comes u x (x' ∷ xs) go d acts' wanted i is l end =
     let next' : List FormatItem → Meaning (Unit {0}) = λ rest. P.items_put around (whole_in u) rest (x' ∷ xs) in
     let goal = items_aims u acts' i wanted in
     comes_on w.acts flow next'
-    (comes_map (left_aims u acts' mid 0) (before code goal w.acts next') flow
+    (comes_map (left_aims u acts' mid (size_of one)) (before code goal w.acts next') refl flow
     (λ c1 f1 v1 left' s o.
     subst (λ s'. Comes code c1 f1 v1 goal (next' left' w.acts s')) (sym o.state)
     (onward (items_closed u acts' i wanted) o.reach
     (λ g at.
     items_comes u x' xs go.1
-    (record { rest = left'; point = o.point; numbers = o.numbers; credits = 0; index = mid; family = g })
+    (record { rest = left'; point = o.point; numbers = o.numbers; credits = size_of one; index = mid; family = g })
     acts' wanted i
     (record {
       among = o.among;
@@ -277,10 +187,10 @@ items_comes u x (x' ∷ xs) go d acts' wanted i is l end =
       paid = omega (arith, paid, n0);
       there = at;
     })
-    (back_of one others l) (omega (arith, n0, end)))))
+    (back_of one others l) (omega (arith, n0, end)) (omega (arith, n0, enough)))))
     (λ c1 f1 v1 height label s q. q)
     (λ c1 f1 v1 r s q. absurd q)
-    (go.0 d acts' 0 mid
+    (go.0 d acts' (size_of one) mid
     (record {
       among = is.among;
       line = is.line;
@@ -289,7 +199,7 @@ items_comes u x (x' ∷ xs) go d acts' wanted i is l end =
       paid = omega (arith, paid, n0);
       there = is.there;
     })
-    (front_of one others l) refl))
+    (front_of one others l) refl (omega arith)))
 
 -- ---- the place begins, and ends
 
@@ -408,11 +318,10 @@ opened [] h = absurd (cc h)
 opened (x ∷ xs) h = record { first = x; more = xs; is = refl }
 
 abbrev pub puts_of :
-    (textual : Bool) → (words : ℕ) → Block → List Label → T.Formats → (line need most : ℕ) → (first : FormatItem) →
+    (words : ℕ) → Block → List Label → T.Formats → (line need most : ℕ) → (first : FormatItem) →
     (more : List FormatItem) → Puts
-puts_of textual words k labels formats line need most first more =
+puts_of words k labels formats line need most first more =
     record {
-      textual = textual;
       words = words;
       block = k;
       labels = labels;
@@ -424,25 +333,17 @@ puts_of textual words k labels formats line need most first more =
       more = more;
     }
 
--- what it owes where it ends: the credits of the service that ends a place
-abbrev debt : ℕ
-debt = 2
-
 -- what is known around its lists
 pub record IsAround (words : ℕ) (k : Block) (labels : List Label) (line need most : ℕ) : Type 0 where
   pub acts : k.call.surroundings.acts + 1 < 2 ^ 64
   pub over : AreOver k.first.control.entries k.first.control.edits k.first.control.layers
   pub registers : need ≤ k.registers
-  pub one : 1 ≤ k.registers
   pub held : k.registers ≤ held_registers
   pub error : (place : EditPlace) → ErrorComes (List ℕ) (within place (setting_around words k labels line most))
 
--- one of its lists: the block knows its format list, which has data items of one kind, and each of its items is shown
+-- one of its lists: the block knows its format list, and each of its items is shown
 pub record ListGoes (words : ℕ) (k : Block) (labels : List Label) (line need most : ℕ) (x : Y.PutPair) : Type 0 where
-  pub textual : Bool
-  pub fixed : has_fixed x.formats ≡ not textual
-  pub text : has_text x.formats ≡ textual
-  pub are : AreItems textual (format_items x.formats)
+  pub are : AreItems (kinds_of x.formats) (format_items x.formats)
   pub some : has_data (format_items x.formats) ≡ true
   pub knows : KnowsFormats k x.formats
   pub item : Y.PutItem
@@ -450,8 +351,8 @@ pub record ListGoes (words : ℕ) (k : Block) (labels : List Label) (line need m
   pub shown : x.items ≡ item ∷ items
   pub go :
       (first : FormatItem) (more : List FormatItem) →
-      ArePut (puts_of textual words k labels x.formats line need most first more) →
-      AllGo (puts_of textual words k labels x.formats line need most first more) (item ∷ items)
+      ArePut (puts_of words k labels x.formats line need most first more) →
+      AllGo (puts_of words k labels x.formats line need most first more) (item ∷ items)
 
 abbrev pub ListsGo : (words : ℕ) → Block → List Label → (line need most : ℕ) → List Y.PutPair → Type 0
 ListsGo words k labels line need most [] = ⊤
@@ -461,11 +362,12 @@ ListsGo words k labels line need most (x ∷ xs) =
 abbrev lists_code : (words : ℕ) → Block → List Y.PutPair → Code
 lists_code words k xs = C.put_pairs k.environment (set_aside words) xs
 
--- from a point before a list on, one list behind the other
+-- from a point before a list on, one list behind the other: where it ends it owes the credits of the last list at most
 lists_come :
-    (words : ℕ) (k : Block) (labels : List Label) (line need most left' : ℕ) → IsAround words k labels line need most →
-    (xs : List Y.PutPair) → ListsGo words k labels line need most xs →
-    (acts' c wanted i j : ℕ) (f : Family) {p : Point} {numbers : ℕ → ℕ} → IsAmong k numbers p →
+    (words : ℕ) (k : Block) (labels : List Label) (line need most left' debt : ℕ) →
+    IsAround words k labels line need most → (xs : List Y.PutPair) → ListsGo words k labels line need most xs →
+    size_of (lists_code words k xs) ≤ debt → (acts' c wanted i j : ℕ) (f : Family) {p : Point} {numbers : ℕ → ℕ} →
+    IsAmong k numbers p →
     p.control.line ≡ line → acts' ≤ p.state.world.acts →
     (c ≤ debt) × (c + size_of (lists_code words k xs) + most ≤ cost k.call.code) →
     Linked k.call.surroundings.links k.call.code i (lists_code words k xs) → i + size_of (lists_code words k xs) ≡ j →
@@ -474,24 +376,25 @@ lists_come :
     (owing k.call.code debt (statement_aims k labels acts' j wanted left'))
     (P.pairs_put (at_line k.around line) xs k.call.surroundings.acts p.state)
 unfolding P.pairs_put ◌>>◌ ◌>>=◌ give
-lists_come words k labels line need most left' a [] go acts' c wanted i j f {p} {numbers} o at since few l end there =
+lists_come words k labels line need most left' debt a [] go owes acts' c wanted i j f {p} {numbers} o at since few l end
+    there =
     let code = k.call.code in
     let low = few.0 in
     record {
-      to = done_owing (statement_closed k labels acts' j wanted left') debt wanted (omega (arith, low))
+      to = λ early. done_owing (statement_closed k labels acts' j wanted left') debt wanted (omega (arith, low))
           (stay code c f (services_of p) (λ b y. IsIn k.call.surroundings p numbers i b y) there) tt p.state
           (λ g at'.
           goes_here acts' wanted g since o
           (λ b. subst (λ n. IsIn k.call.surroundings p numbers n b (g b)) (omega (arith, end)) (at' b)));
     }
-lists_come words k labels line need most left' a (x ∷ xs) go acts' c wanted i j f {p} {numbers} o at since few l end
-    there =
+lists_come words k labels line need most left' debt a (x ∷ xs) go owes acts' c wanted i j f {p} {numbers} o at since
+    few l end there =
     let w = k.call.surroundings in
     let code = k.call.code in
     let fs = x.formats in
     let one = go.0 in
     let list = opened (format_items fs) one.some in
-    let u = puts_of one.textual words k labels fs line need most list.first list.more in
+    let u = puts_of words k labels fs line need most list.first list.more in
     let here = at_line k.around line in
     let first = k.first.control in
     let begun = edit_begun fs 1 in
@@ -517,12 +420,9 @@ lists_come words k labels line need most left' a (x ∷ xs) go acts' c wanted i 
     let b : ArePut u = record {
       acts = a.acts;
       over = a.over;
-      fixed = one.fixed;
-      text = one.text;
-      are = subst (AreItems one.textual) list.is one.are;
+      are = subst (AreItems (kinds_of fs)) list.is one.are;
       some = subst (λ ws. has_data ws ≡ true) list.is one.some;
       registers = a.registers;
-      one = a.one;
       held = a.held;
       error = a.error;
     } in
@@ -536,58 +436,61 @@ lists_come words k labels line need most left' a (x ∷ xs) go acts' c wanted i 
     onward closed (begin_reach k fs h c f (front_of begun (items ++ edit_ended) l1) one.knows o there)
     (λ g1 at1.
     comes_on w.acts flow next2
-    (comes_map (items_aims u acts' i2 0) (before code owed w.acts next2) flow
+    (comes_map (items_aims u acts' i2 (size_of items)) (before code owed w.acts next2) refl flow
     (λ c1 f1 v1 t s e.
     let o2 = e.1 in
     let place2 = putting (whole_in u) e.0 in
     let h2 = point_frame o2.among.stands o2.among.image in
     let q2 = with_edits first.edits o2.point in
-    let r2 = end_reach k h2 place2 first.edits o2.among.later.edits 0 (reached o2.reach)
+    let r2 = end_reach k h2 place2 first.edits o2.among.later.edits (size_of items) (reached o2.reach)
     (back_of items edit_ended l2) (reached_holds o2.reach) in
     let among2 : IsAmong k o2.numbers q2 =
     edits_among k (place2 ∷ first.edits) first.edits first.edits o2.among refl a.over in
     subst (λ s'. Comes code c1 f1 v1 owed (next2 t w.acts s')) (sym o2.state)
     (onward closed (reach_then o2.reach r2)
     (λ g2 at2.
-    lists_come words k labels line need most left' a xs go.1 acts' 2 wanted (i + size_of pair) j g2 among2
-    o2.line o2.since (omega arith, omega (arith, all, n1, n2, n3)) (back_of pair rest l) (omega (arith, n1, end))
+    lists_come words k labels line need most left' debt a xs go.1 (omega (arith, owes, n1)) acts'
+    (size_of items + 2) wanted (i + size_of pair) j g2 among2 o2.line o2.since
+    (omega (arith, owes, n1, n2, n3), omega (arith, all, n1, n2, n3)) (back_of pair rest l) (omega (arith, n1, end))
     (λ b'. in_known h2 o2.among.image.parts (moved_at b' (g2 b') (omega (arith, n2, n3)) (at2 b'))))))
     (λ c1 f1 v1 height label s e. λ i0 f0 v0 from. jumps_repaid debt from e)
     (λ c1 f1 v1 r' s e. absurd e)
-    (subst (λ ys. Comes code (c + 5) g1 (services_of q1) (items_aims u acts' i2 0)
+    (subst (λ ys. Comes code (c + 5) g1 (services_of q1) (items_aims u acts' i2 (size_of items))
     (P.items_put here whole whole ys w.acts q1.state)) (sym one.shown)
-    (subst (λ ws. Comes code (c + 5) g1 (services_of q1) (items_aims u acts' i2 0)
+    (subst (λ ws. Comes code (c + 5) g1 (services_of q1) (items_aims u acts' i2 (size_of items))
     (P.items_put here ws ws (one.item ∷ one.items) w.acts q1.state)) (sym list.is)
     (items_comes u one.item one.items (one.go list.first list.more b)
     (record { rest = whole_in u; point = q1; numbers = numbers; credits = c + 5; index = i1; family = g1 })
-    acts' 0 i2
+    acts' (size_of items) i2
     (record {
       among = subst (λ ws. IsAmong (placing (putting ws ws) k) numbers q1) list.is among1;
       line = at;
-      are = subst (AreItems one.textual) list.is one.are;
+      are = subst (AreItems (kinds_of fs)) list.is one.are;
       since = since;
       paid = omega (arith, all, n1, n2, n3, n4);
       there = λ b'. in_known h o.image.parts (at1 b');
     })
-    (subst (Linked w.links code i1) same (front_of items edit_ended l2)) (omega (arith, n4)))))))
+    (subst (Linked w.links code i1) same (front_of items edit_ended l2)) (omega (arith, n4))
+    (omega (arith, n4)))))))
 
 -- lines end first, or none
 skipped_come :
-    (words : ℕ) (k : Block) (labels : List Label) (line need most left' : ℕ) → IsAround words k labels line need most →
-    (skip : Option ℕ) → IsSkipped skip → (xs : List Y.PutPair) → ListsGo words k labels line need most xs →
-    (acts' wanted i j : ℕ) (f : Family) {p : Point} {numbers : ℕ → ℕ} → IsAmong k numbers p →
-    p.control.line ≡ line → acts' ≤ p.state.world.acts →
+    (words : ℕ) (k : Block) (labels : List Label) (line need most left' debt : ℕ) →
+    IsAround words k labels line need most → (skip : Option ℕ) → IsSkipped skip → (xs : List Y.PutPair) →
+    ListsGo words k labels line need most xs →
+    size_of (lists_code words k xs) ≤ debt → (acts' wanted i j : ℕ) (f : Family) {p : Point} {numbers : ℕ → ℕ} →
+    IsAmong k numbers p → p.control.line ≡ line → acts' ≤ p.state.world.acts →
     size_of (C.skip_option 1 skip ++ lists_code words k xs) + most ≤ cost k.call.code →
     Linked k.call.surroundings.links k.call.code i (C.skip_option 1 skip ++ lists_code words k xs) →
     i + size_of (C.skip_option 1 skip ++ lists_code words k xs) ≡ j → AreIn k.call.surroundings p numbers i f →
     Comes k.call.code 0 f (services_of p) (owing k.call.code debt (statement_aims k labels acts' j wanted left'))
     (P.put (at_line k.around line) skip xs k.call.surroundings.acts p.state)
 unfolding P.put P.control_put ◌>>◌ ◌>>=◌
-skipped_come words k labels line need most left' a None some xs go acts' wanted i j f o at since paid l end
+skipped_come words k labels line need most left' debt a None some xs go owes acts' wanted i j f o at since paid l end
     there =
-    lists_come words k labels line need most left' a xs go acts' 0 wanted i j f o at since
+    lists_come words k labels line need most left' debt a xs go owes acts' 0 wanted i j f o at since
     (omega arith, omega (arith, paid)) l end there
-skipped_come words k labels line need most left' a (Some lines) some xs go acts' wanted i j f {p} {numbers} o
+skipped_come words k labels line need most left' debt a (Some lines) some xs go owes acts' wanted i j f {p} {numbers} o
     at since paid l end there =
     let w = k.call.surroundings in
     let option = C.skip_option 1 (Some lines) in
@@ -599,7 +502,7 @@ skipped_come words k labels line need most left' a (Some lines) some xs go acts'
     (skip_comes (before_closed w.acts next' closed) lines 0 0 f (o.stands, o.image) (some, a.acts)
     (omega (arith, paid, n0)) (front_of option rest l) there
     (λ g less at'.
-    lists_come words k labels line need most left' a xs go acts' 0 wanted (i + size_of option) j g
+    lists_come words k labels line need most left' debt a xs go owes acts' 0 wanted (i + size_of option) j g
     (writing_among (item_of lines) o less) at (omega (arith, since)) (omega arith, omega (arith, paid, n0))
     (back_of option rest l) (omega (arith, n0, end)) at'))
 
@@ -607,7 +510,7 @@ pub lists_do :
     (words : ℕ) (k : Block) (labels : List Label) (skip : Option ℕ) (first : Y.PutPair) (more : List Y.PutPair)
     (line index left' need most : ℕ) → HasAct k line → IsSkipped skip →
     ListsGo words k labels line need most (first ∷ more) →
-    (need ≤ k.registers) × ((1 ≤ k.registers) × (k.registers ≤ held_registers)) →
+    (need ≤ k.registers) × (k.registers ≤ held_registers) →
     ((place : EditPlace) → ErrorComes (List ℕ) (within place (setting_around words k labels line most))) →
     Linked k.call.surroundings.links k.call.code index
     (stmt_code k.environment (set_aside words) (Y.Put skip (first ∷ more) line)) →
@@ -626,90 +529,25 @@ lists_do words k labels skip x xs line index left' need most act' some go regist
     let n0 = size_append one behind' in
     let stmt = Y.Put skip (x ∷ xs) line in
     let j = index + size_with words k stmt in
+    let debt = size_of behind' in
+    let owes = size_append (C.skip_option 1 skip) (lists_code words k (x ∷ xs)) in
     let owed = owing code debt (statement_aims k labels acts' j wanted left') in
     let closed = owing_closed code debt (statement_aims k labels acts' j wanted left') in
     let next1 : Unit {0} → Meaning (Unit {0}) = λ t. P.put here skip (x ∷ xs) in
     let over' : AreOver first.entries first.edits first.layers = over_first k [] o in
-    let behind = some_behind words k skip x xs in
     comes_owing debt (M.statement k.around stmt w.acts p.state)
     (comes_on w.acts (act counted w.acts p.state) next1
     (act_comes (before_closed w.acts next1 closed) line (c + debt) 0 f (o.stands, o.image)
-    (act'.line_fits, act'.acts, omega (arith, paid, n0, behind)) (front_of one behind' l) there
+    (act'.line_fits, act'.acts, omega (arith, paid, n0)) (front_of one behind' l) there
     (λ g less at.
-    skipped_come words k labels line need most left'
+    skipped_come words k labels line need most left' debt
     (record {
       acts = act'.acts;
       over = over';
       registers = registers.0;
-      one = registers.1.0;
-      held = registers.1.1;
+      held = registers.1;
       error = error;
     })
-    skip some (x ∷ xs) go acts' wanted (index + size_of one) j g (acted_among line o less) refl (omega arith)
+    skip some (x ∷ xs) go (omega (arith, owes)) acts' wanted (index + size_of one) j g (acted_among line o less)
+    refl (omega arith)
     (omega (arith, all, n0)) (back_of one behind' l) (omega (arith, n0)) at)))
-  where
-    some_behind :
-        (words : ℕ) (k : Block) (skip : Option ℕ) (x : Y.PutPair) (xs : List Y.PutPair) →
-        debt ≤ size_of (C.skip_option 1 skip ++ lists_code words k (x ∷ xs))
-    some_behind words k skip x xs =
-        let begun = edit_begun x.formats 1 in
-        let items = C.items_put k.environment (set_aside words) x.formats x.items in
-        let pair = begun ++ (items ++ edit_ended) in
-        let rest = lists_code words k xs in
-        let n0 = size_append (C.skip_option 1 skip) (pair ++ rest) in
-        let n1 = size_append pair rest in
-        let n2 = size_append begun (items ++ edit_ended) in
-        omega (arith, n0, n1, n2)
-
--- ---- of numbers by F
-
-all_fixed : (xs : List FormatItem) → AreFixed xs → AreItems false xs
-all_fixed [] are = tt
-all_fixed (DataFormat (FixedItem width) ∷ xs) are = (tt, all_fixed xs are)
-all_fixed (DataFormat (TextItem width) ∷ xs) are = absurd are
-all_fixed (ControlFormat item ∷ xs) are = all_fixed xs are
-
-numbers_go :
-    (u : Puts) → u.textual ≡ false → ArePut u → (xs : List Item) → ItemsDo (setting_in u) u.need xs →
-    AllGo u (put_items xs)
-numbers_go u numbers a [] does = tt
-numbers_go u numbers a (x ∷ xs) does = (number_goes u numbers a x does.0, numbers_go u numbers a xs does.1)
-
-pub number_list :
-    (words : ℕ) (k : Block) (labels : List Label) (line need most : ℕ) (x : Pair) → IsFixed x.formats →
-    KnowsFormats k x.formats → ItemsDo (setting_around words k labels line most) need (x.first ∷ x.more) →
-    ListGoes words k labels line need most (record { items = put_items (x.first ∷ x.more); formats = x.formats })
-number_list words k labels line need most x is knows does =
-    record {
-      textual = false;
-      fixed = is.fixed;
-      text = is.text;
-      are = all_fixed (format_items x.formats) is.are;
-      some = is.some;
-      knows = knows;
-      item = put_item x.first;
-      items = put_items x.more;
-      shown = refl;
-      go = λ first more a.
-          numbers_go (puts_of false words k labels x.formats line need most first more) refl a (x.first ∷ x.more) does;
-    }
-
-number_lists :
-    (words : ℕ) (k : Block) (labels : List Label) (line need most : ℕ) (xs : List Pair) → AreListed k xs →
-    PairsDo (setting_around words k labels line most) need xs → ListsGo words k labels line need most (put_pairs xs)
-number_lists words k labels line need most [] known does = tt
-number_lists words k labels line need most (x ∷ xs) known does = (
-  number_list words k labels line need most x known.0.0 known.0.1 does.0,
-  number_lists words k labels line need most xs known.1 does.1,
-)
-
-pub put_does :
-    (words : ℕ) (k : Block) (labels : List Label) (x : Put) (index left' need most : ℕ) →
-    IsPut words k labels x index need most →
-    PairsDo (setting_around words k labels x.line most) need (x.first ∷ x.more) →
-    DoesWith words k labels (put_of x) index left'
-put_does words k labels x index left' need most is does =
-    let pair : Pair → Y.PutPair = λ y. record { items = put_items (y.first ∷ y.more); formats = y.formats } in
-    lists_do words k labels x.skip (pair x.first) (put_pairs x.more) x.line index left' need most is.act is.skip
-    (number_lists words k labels x.line need most (x.first ∷ x.more) is.lists does)
-    (is.registers, (is.one, is.held)) is.error is.statement is.paid

@@ -178,6 +178,6 @@ skip_does k labels lines line index left' is p numbers c wanted f o paid there =
     ((is.some, is.most), is.act.acts) (omega (arith, paid, n0, n1)) (front_of option [] l1) at
     (λ g' less' at'.
     record {
-      to = goes_here acts' wanted g' (omega arith) (writing_among (item_of lines) o' less')
+      to = λ early. goes_here acts' wanted g' (omega arith) (writing_among (item_of lines) o' less')
           (λ b. subst (λ i. IsIn w (behind_skip lines q) numbers i b (g' b)) (omega (arith, n0, n1)) (at' b));
     }))))

@@ -1,13 +1,9 @@
--- PUT EDIT of a text by A: it waits on the stack of texts while control items are carried out, and is then written and
--- dropped.
-use Rattle.std.proofs.Common.{◌≡◌, ℕ, ◌+◌, ◌<◌, ◌≤◌, List, [], ◌∷◌, ◌++◌, Option, Some, None, Bool, true, false}
-use Rattle.std.proofs.Common.{refl, sym, ap, ◌∙◌, subst, arith}
-use Rattle.std.specs.Prelude.{cond, not, ◌&&◌}
-use Rattle.rv_meaning.specs.declared.instr.BranchTest.TheVariants as Test
-use Rattle.rv_meaning.specs.declared.instr.Instr.TheVariants as I
-use Rattle.pli_language.specs.Tree as T
+-- PUT EDIT of a text, by A or by F: it waits on the stack of texts while control items are carried out, and is then
+-- written and dropped, or becomes the number that it shows.
+use Rattle.std.proofs.Common.{◌≡◌, ℕ, ◌+◌, ◌≤◌, List, [], ◌∷◌, ◌++◌, Option, Some, None, true}
+use Rattle.std.proofs.Common.{refl, sym, ap, ◌∙◌, subst, arith, lit<}
 use Rattle.pli_typing.specs.TypedTree as Y
-use Rattle.pli_meaning.specs.Control.{Label, Meaning, act, give, ◌>>=◌, ◌>>◌}
+use Rattle.pli_meaning.specs.Control.{Meaning, act, give, ◌>>=◌, ◌>>◌}
 use Rattle.pli_meaning.specs.Evaluating as V
 use Rattle.pli_meaning.specs.Evaluating.{Computational, ComputationalText}
 use Rattle.pli_meaning.specs.Raising.{Around}
@@ -16,91 +12,75 @@ use Rattle.pli_meaning.specs.Streaming as P
 use Rattle.pli_meaning.specs.Streaming.{DataFormat, DataItem, FixedItem, FormatItem, TextItem, format_items}
 use Rattle.pli_meaning.specs.World.{written}
 use Rattle.pli_serving.specs.Answers.{Done}
-use Rattle.pli_serving.specs.Edits as E
-use Rattle.pli_serving.specs.Outcomes.{on_text, with_entries}
+use Rattle.pli_serving.specs.Outcomes.{becoming, on_text, or_status, with_entries}
+use Rattle.std.specs.Option.{option_map}
 use Rattle.pli_serving.specs.ServiceState.{EditPlace, TextEntry}
-use Rattle.pli_coding.specs.Assembly.{Code, Plain, size_of}
+use Rattle.pli_coding.specs.Assembly.{Code, size_of}
 use Rattle.pli_coding.specs.Expressions.{text_code}
-use Rattle.pli_coding.specs.Instructions.{choice, small, tested_service}
-use Rattle.pli_coding.specs.Registers.{a0, a7, u1}
+use Rattle.pli_coding.specs.Instructions.{small, tested_service}
+use Rattle.pli_coding.specs.Registers.{a0}
 use Rattle.pli_coding.specs.Streams as C
-use Rattle.pli_coding.specs.Streams.{controls_carried_out, has_text, number_written, text_written}
+use Rattle.pli_coding.specs.Streams.{controls_carried_out, has_fixed, number_written, text_written}
 use Rattle.activation_relation.specs.Layers.{Point, services_of}
 use Rattle.run_steps.specs.Bodies.{Known}
 use Rattle.run_steps.proofs.Bodies.{zero_is}
-use Rattle.run_steps.specs.Calls.{Calling}
-use Rattle.run_steps.proofs.Calls.{acts, called}
-use Rattle.run_steps.specs.Engine.{Base, address, call_at}
+use Rattle.run_steps.specs.Engine.{Base, call_at}
 use Rattle.run_steps.specs.Items.{At, Linked}
 use Rattle.run_steps.proofs.Items.{straight}
 use Rattle.run_steps.proofs.Jumps.{back_of, front_of}
 use Rattle.run_steps.proofs.Linking.{size_append}
-use Rattle.run_steps.specs.Reach.{Comes, Family, before, cost, reached}
-use Rattle.run_steps.proofs.Reach.{before_closed, comes_on, onward, stay}
+use Rattle.run_steps.specs.Reach.{Comes, Family, before, cost}
+use Rattle.run_steps.proofs.Reach.{before_closed, comes_on, onward}
 use Rattle.run_steps.specs.Temporaries.{nothing}
 use Rattle.block_runs.proofs.BlockEntries.{small_is}
 use Rattle.block_runs.proofs.CallStatements.{comes_map}
-use Rattle.block_runs.proofs.PointGrounds.{in_known, known_in, point_frame, point_ground}
-use Rattle.program_runs.specs.Statements.{Block, IsAmong, set_aside, waiting, with_texts}
+use Rattle.block_runs.proofs.PointGrounds.{known_in, point_frame, point_ground}
+use Rattle.program_runs.specs.Statements.{IsAmong, set_aside, waiting, with_texts}
 use Rattle.program_runs.proofs.JumpsOut.{jumps_since}
 use Rattle.program_runs.proofs.Waiting.{over_more, texts_among}
-use Rattle.expression_runs.specs.Assignments.{setting_around}
 use Rattle.expression_runs.specs.Values.{behind}
 use Rattle.expression_runs.proofs.Words.{frame_of}
 use Rattle.text_runs.specs.Laws.{TextDoes}
 use Rattle.text_runs.specs.Texts.{text_aims}
-use Rattle.edit_runs.specs.Edits.{AreItems, IsItem, KnowsFormats, placing, putting, within}
-use Rattle.edit_runs.specs.TextEdits.{IsTextual, TextsDo, text_items}
-use Rattle.edit_runs.specs.Writing.{writing}
-use Rattle.edit_runs.proofs.Controls.{Loop, current, current_found, found_aims, next_comes}
-use Rattle.edit_runs.proofs.Items.{ArePut, Puts, left_aims, left_closed, setting_in, whole_in}
-use Rattle.edit_runs.proofs.Places.{edits_among, jumps_down, over_place}
-use Rattle.edit_runs.proofs.Puts.{AllGo, ItemGoes, ListGoes, puts_of}
-use Rattle.edit_runs.proofs.Writing.{writing_among, writing_comes}
+use Rattle.std.specs.Prelude.{ℤ}
+use Rattle.rv_meaning.specs.Words.{word}
+use Rattle.pli_meaning.specs.Codes.{conversion_code, too_wide_code}
+use Rattle.pli_meaning.specs.Raising as R
+use Rattle.pli_meaning.specs.Stream.{fixed_field}
+use Rattle.pli_meaning.specs.Texts.{number_in_text}
+use Rattle.pli_serving.specs.TextServices as X
+use Rattle.text_runs.specs.Texts.{ErrorComes}
+use Rattle.text_runs.proofs.Lengths.{number_wide}
+use Rattle.text_runs.proofs.Tested.{Place, Tested, tested_comes}
+use Rattle.text_runs.proofs.TextCalls.{three, told}
+use Rattle.rv_meaning.specs.declared.instr.Instr.{Instr}
+use Rattle.pli_serving.specs.Finding.{Call}
+use Rattle.pli_serving.specs.ServiceState.{Entry, Services}
+use Rattle.edit_runs.specs.Edits.{AreItems, IsItem, kinds_of, placing, putting, within}
+use Rattle.edit_runs.proofs.Choices.{Choice, branch_of, chosen_comes, chosen_size}
+use Rattle.edit_runs.proofs.Controls.{Loop, current, found_aims, next_comes}
+use Rattle.edit_runs.proofs.Items.{ArePut, Puts, Ready, left_aims, left_closed, number_comes, setting_in, whole_in}
+use Rattle.edit_runs.proofs.Places.{jumps_down, over_place}
+use Rattle.edit_runs.proofs.Puts.{ItemGoes}
+use Rattle.edit_runs.proofs.TextFields.{field_comes, shown_is}
 
--- ---- its code and its meaning
-
-abbrev text_item : Y.Text → Y.PutItem
+abbrev pub text_item : Y.Text → Y.PutItem
 text_item x = Y.PutValue (Y.TextValue x)
 
-abbrev text_shown : Code
-text_shown = controls_carried_out ++ text_written
+abbrev by_fixed : Code
+by_fixed = small a0 0 ∷ (tested_service 26 ++ number_written)
 
-abbrev item_code : Puts → Y.Text → Code
-item_code u x = text_code u.block.environment (set_aside u.words) x ++ text_shown
+abbrev choice_code : Puts → Code
+choice_code u = C.by_item u.formats by_fixed text_written
 
--- lists of A items have no other code
-item_coded :
-    (u : Puts) → u.textual ≡ true → ArePut u → (x : Y.Text) →
-    C.item_put u.block.environment (set_aside u.words) u.formats (text_item x) ≡ item_code u x
-item_coded u texts a x =
-    let shows = small a0 0 ∷ (tested_service 26 ++ number_written) in
-    let both = small u1 1 ∷ choice Test.Equal a0 u1 shows text_written in
-    ap (λ q. text_code u.block.environment (set_aside u.words) x
-    ++ (controls_carried_out ++ cond (q && has_text u.formats) both (cond q shows text_written)))
-    (a.fixed ∙ ap not texts)
-
--- an A item of such a list
-pub an_item : (textual : Bool) (item : DataItem) → textual ≡ true → IsItem textual item →
-    (width : Option ℕ) × (item ≡ TextItem width)
-an_item true (TextItem width) e is = (width, refl)
-an_item true (FixedItem width) e is = absurd is
-an_item false item e is = absurd (cc e)
-
-shown_is :
-    (around : Around) (text : List ℕ) (width : Option ℕ) →
-    P.shown_by around (ComputationalText text) (TextItem width) ≡ act (written (with_field (E.text_field width text)))
-unfolding P.shown_by
-shown_is around text None = refl
-shown_is around text (Some width) = refl
-
--- ---- where an A item is next
+abbrev text_shown : Puts → Code
+text_shown u = controls_carried_out ++ choice_code u
 
 -- the loop that carries out control items, while the text waits
 abbrev loop_of : Puts → (text : List ℕ) → (acts' credits index : ℕ) → (ℕ → ℕ) → Loop
 loop_of u text acts' credits index numbers =
     record {
-      textual = u.textual;
+      kinds = kinds_of u.formats;
       block = waiting (TextEntry text ∷ []) u.block;
       line = u.line;
       acts = acts';
@@ -111,83 +91,129 @@ loop_of u text acts' credits index numbers =
       credits = credits;
     }
 
--- the point behind the field, where the text is gone
-abbrev pub point_behind : Puts → (left' : List FormatItem) → (field : List ℕ) → Point → Point
-point_behind u left' field p =
-    writing (with_field field) (putting (whole_in u) left' ∷ u.block.first.control.edits)
-    (with_texts u.block.first.control.entries p)
+-- ---- where a text waits, and an item is next
 
-behind_among :
-    (u : Puts) → ArePut u → (text field : List ℕ) (rest left' : List FormatItem) {numbers : ℕ → ℕ} {p : Point} →
-    IsAmong (placing (putting (whole_in u) rest) (waiting (TextEntry text ∷ []) u.block)) numbers p →
-    p.state.world.acts < u.block.call.surroundings.acts →
-    IsAmong (placing (putting (whole_in u) left') u.block) numbers (point_behind u left' field p)
-behind_among u a text field rest left' o less =
-    let first = u.block.first.control in
-    let place = putting (whole_in u) rest in
-    let next = putting (whole_in u) left' in
-    let without = texts_among (placing place u.block) (TextEntry text ∷ []) [] o
-    (over_place place first.entries first.edits first.layers a.over) in
-    writing_among (with_field field)
-    (edits_among u.block (place ∷ first.edits) (next ∷ first.edits) (next ∷ first.edits) without refl
-    (over_place next first.entries first.edits first.layers a.over)) less
+record Chosen : Type 0 where
+  text : List ℕ
+  rest : List FormatItem
+  left' : List FormatItem
+  point : Point
+  numbers : ℕ → ℕ
+  credits : ℕ
+  index : ℕ
+  family : Family
 
--- where a text waits and an A item is next
-pub record Due : Type 0 where
-  pub text : List ℕ
-  pub rest : List FormatItem
-  pub left' : List FormatItem
-  pub width : Option ℕ
-  pub point : Point
-  pub numbers : ℕ → ℕ
-  pub credits : ℕ
-  pub index : ℕ
-  pub family : Family
+record IsChosen (u : Puts) (item : DataItem) (r : Chosen) (h : frame_of u.block r.point) (code : Code)
+    (acts' : ℕ) : Type 0
+  where
+    among :
+        IsAmong (placing (putting (whole_in u) r.rest) (waiting (TextEntry r.text ∷ []) u.block)) r.numbers r.point
+    line : r.point.control.line ≡ u.line
+    next : current (whole_in u) r.rest ≡ DataFormat item ∷ r.left'
+    are : AreItems (kinds_of u.formats) r.left'
+    since : acts' ≤ r.point.state.world.acts
+    linked : Linked u.block.call.surroundings.links u.block.call.code r.index code
+    paid : r.credits + size_of code + u.most ≤ cost u.block.call.code
+    there :
+        (b : Base) →
+        At b r.index (Known (point_ground u.block.call.surroundings r.point h) (services_of r.point) r.numbers
+        (λ j. 0) nothing b) (r.family b)
 
-abbrev pub field_of : Due → List ℕ
-field_of d = E.text_field d.width d.text
-
-abbrev pub behind_due : Puts → Due → Point
-behind_due u d = point_behind u d.left' (field_of d) d.point
-
-pub record IsDue (u : Puts) (d : Due) (h : frame_of u.block d.point) : Type 0 where
-  pub among :
-      IsAmong (placing (putting (whole_in u) d.rest) (waiting (TextEntry d.text ∷ []) u.block)) d.numbers d.point
-  pub line : d.point.control.line ≡ u.line
-  pub next : current (whole_in u) d.rest ≡ DataFormat (TextItem d.width) ∷ d.left'
-  pub are : AreItems u.textual d.left'
-  pub linked : Linked u.block.call.surroundings.links u.block.call.code d.index text_written
-  pub paid : d.credits + 2 ≤ cost u.block.call.code
-  pub there :
-      (b : Base) →
-      At b d.index (Known (point_ground u.block.call.surroundings d.point h) (services_of d.point) d.numbers (λ j. 0)
-      nothing b) (d.family b)
-
--- it is written, an act
-pub field_comes :
-    (u : Puts) → ArePut u → (d : Due) (h : frame_of u.block d.point) → IsDue u d h → (acts' wanted i : ℕ) →
-    acts' ≤ d.point.state.world.acts → d.index + 2 ≡ i →
-    Comes u.block.call.code d.credits d.family (services_of d.point)
-    (before u.block.call.code (left_aims u acts' i wanted) u.block.call.surroundings.acts (λ t. give d.left'))
-    (act (written (with_field (field_of d))) u.block.call.surroundings.acts d.point.state)
-unfolding give
-field_comes u a d h is acts' wanted i since end =
+-- by A
+text_branch :
+    (u : Puts) → ArePut u → (width : Option ℕ) (r : Chosen) (h : frame_of u.block r.point) (acts' wanted i : ℕ) →
+    IsChosen u (TextItem width) r h text_written acts' → r.index + size_of text_written ≡ i →
+    Comes u.block.call.code r.credits r.family (services_of r.point) (left_aims u acts' i wanted)
+    (((P.shown_by (setting_in u).around (ComputationalText r.text) (TextItem width)) >> give r.left')
+    u.block.call.surroundings.acts r.point.state)
+unfolding ◌>>◌ ◌>>=◌ give
+text_branch u a width r h acts' wanted i is end =
     let w = u.block.call.surroundings in
     let code = u.block.call.code in
-    let p = d.point in
-    let v = services_of p in
-    let q = behind_due u d in
-    let first = u.block.first.control in
-    let places = putting (whole_in u) d.left' ∷ first.edits in
-    let next' : Unit {0} → Meaning (List FormatItem) = λ t. give d.left' in
-    let closed = before_closed w.acts next' (left_closed u acts' i wanted) in
-    let front = small a7 37 ∷ [] in
-    let last = Plain I.Ecall ∷ [] in
+    let around = (setting_in u).around in
+    let last : Unit {0} → Meaning (List FormatItem) = λ t. give r.left' in
     let paid = is.paid in
-    let asked : Base → List (ℕ × ℕ) = λ b. (17, 37) ∷ [] in
-    let r1 = straight d.credits d.family v v
-    (λ b. Known (point_ground w p h) v d.numbers (λ j. 0) asked b) (front_of front last is.linked) (omega arith)
-    (λ b. (is.there b).pc)
+    comes_on w.acts (P.shown_by around (ComputationalText r.text) (TextItem width) w.acts r.point.state) last
+    (subst (λ (m : Meaning (Unit {0})). Comes code r.credits r.family (services_of r.point)
+    (before code (left_aims u acts' i wanted) w.acts last) (m w.acts r.point.state))
+    (sym (shown_is around r.text width))
+    (field_comes u a
+    (record {
+      text = r.text;
+      rest = r.rest;
+      left' = r.left';
+      width = width;
+      point = r.point;
+      numbers = r.numbers;
+      credits = r.credits;
+      index = r.index;
+      family = r.family;
+    })
+    h
+    (record {
+      among = is.among;
+      line = is.line;
+      next = is.next;
+      are = is.are;
+      linked = is.linked;
+      paid = omega (arith, paid);
+      there = is.there;
+    })
+    acts' wanted i is.since end))
+
+-- ---- by F: the number that it shows
+
+word_told :
+    {Z : Type 0} (c : Call) (v : Services) (mode : ℕ) (word_of : Z → ℕ) (o : Option Z) →
+    or_status c mode conversion_code (option_map word_of o) (λ w. Done v c.memory w 0)
+    ≡ told c.services c.memory mode conversion_code (λ r. v) word_of o
+word_told c v mode word_of None = refl
+word_told c v mode word_of (Some r) = refl
+
+number_answer :
+    (code : List Instr) (p : Point) (m text : List ℕ) (below : List Entry) →
+    p.control.entries ≡ TextEntry text ∷ below →
+    X.to_number_served (call_at code (services_of p) m) 0
+    ≡ told (services_of p) m 0 conversion_code (λ z. services_of (with_texts below p)) word (number_in_text text)
+number_answer code p m text below top =
+    let c = call_at code (services_of p) m in
+    ap (λ u. on_text u (λ t more. or_status c 0 conversion_code (X.word_in_text 0 t)
+    (λ w. becoming c (with_entries more (services_of p)) w 0))) top
+    ∙ word_told c (services_of (with_texts below p)) 0 word (number_in_text text)
+
+fixed_branch :
+    (u : Puts) → ArePut u → ((place : EditPlace) → ErrorComes ℤ (within place (setting_in u))) → (width : ℕ)
+    (r : Chosen) (h : frame_of u.block r.point) (acts' wanted i : ℕ) →
+    IsChosen u (FixedItem width) r h by_fixed acts' → r.index + size_of by_fixed ≡ i →
+    Comes u.block.call.code r.credits r.family (services_of r.point) (left_aims u acts' i wanted)
+    (((P.shown_by (setting_in u).around (ComputationalText r.text) (FixedItem width)) >> give r.left')
+    u.block.call.surroundings.acts r.point.state)
+unfolding P.shown_by ◌>>◌ ◌>>=◌ give
+fixed_branch u a error width r h acts' wanted i is end =
+    let w = u.block.call.surroundings in
+    let code = u.block.call.code in
+    let around = (setting_in u).around in
+    let p = r.point in
+    let v = services_of p in
+    let e = u.block.first.control.entries in
+    let first' = u.block.first.control in
+    let place = putting (whole_in u) r.rest in
+    let q = with_texts e p in
+    let since = is.since in
+    let paid = is.paid in
+    let last : Unit {0} → Meaning (List FormatItem) = λ t. give r.left' in
+    let fields : ℤ → Meaning (Unit {0}) =
+    λ z. (R.or_error around too_wide_code (fixed_field width z)) >>= (λ field. act (written (with_field field))) in
+    let closed = before_closed w.acts fields (before_closed w.acts last (left_closed u acts' i wanted)) in
+    let one = small a0 0 ∷ [] in
+    let rest = tested_service 26 ++ number_written in
+    let n1 = size_append (tested_service 26) number_written in
+    let l1 = back_of one rest is.linked in
+    let second : Base → ℕ = λ b. (r.family b).machine.registers 11 in
+    let third : Base → ℕ = λ b. (r.family b).machine.registers 12 in
+    let r1 = straight r.credits r.family v v
+    (λ b. Known (point_ground w p h) v r.numbers (λ j. 0) (three (λ b'. 0) second third) b)
+    (front_of one rest is.linked) (omega arith) (λ b. (is.there b).pc)
     (λ b. let o = (is.there b).holds in record {
       body = record {
         services = o.body.services;
@@ -195,77 +221,113 @@ field_comes u a d h is acts' wanted i since end =
         bytes = o.body.bytes;
         memory = o.body.memory;
       };
-      regs = (small_is _ 37 (zero_is o.body) (omega arith), tt);
+      regs = (small_is _ 0 (zero_is o.body) (omega arith), (refl, (refl, tt)));
     }) in
-    let found = current_found (whole_in u) d.rest d.left' (DataFormat (TextItem d.width)) p.control.edits first.edits
-    is.next is.among.later.edits in
-    onward closed r1
+    comes_on w.acts (((R.or_error around conversion_code (number_in_text r.text)) >>= fields) w.acts p.state) last
+    (comes_on w.acts (R.or_error around conversion_code (number_in_text r.text) w.acts p.state) fields
+    (onward closed r1
     (λ g at.
-    let x : Base → ℕ = λ b. (g b).machine.registers 10 in
-    let y : Base → ℕ = λ b. (g b).machine.registers 11 in
-    let calling : Calling w.links code (d.index + 1) g
-    (λ b. Done (services_of q) (g b).machine.memory (x b) (y b)) =
-    record {
-      linked = back_of front last is.linked;
-      pc = λ b. (at b).pc;
-      answers = λ b.
-          let o = (at b).holds in
-          let r = (g b).machine.registers in
-          let call = call_at code v (g b).machine.memory in
-          called code (g b) v 37 (x b) (y b) (r 12) (r 13) (r 14) (λ c x0 x1 x2 x3 x4. E.text_served c x0 x1)
-          o.body.services o.regs.0 refl refl refl refl refl (λ c y'. refl)
-          ∙ found (λ n below. E.text_by call (x b) (y b) n.behind.direction n.item (n.behind ∷ below))
-          ∙ ap (λ es. on_text es
-          (λ t below. E.field_written call (x b) (y b) (with_entries below (E.with_edits places v))
-          (E.text_field d.width t))) is.among.entries
-          ∙ acts v w.acts _ is.among.stands.allowed a.acts;
+    let there : Place = record {
+      entries = TextEntry r.text ∷ [];
+      setting = within place (setting_in u);
+      point = p;
+      numbers = r.numbers;
+      credits = r.credits + 1;
+      index = r.index + 1;
+      family = g;
     } in
-    writing_comes closed
+    let asked : Tested ℤ = record {
+      number = 26;
+      code = conversion_code;
+      x = λ b. 0;
+      y = second;
+      z = third;
+      answer = λ call x0 x1 x2. X.to_number_served call x0;
+      outcome = number_in_text r.text;
+      texts = λ z. e;
+      result = λ z b. word z;
+    } in
+    tested_comes there asked closed refl h
     (record {
-      item = with_field (field_of d);
-      texts = first.entries;
-      edits = places;
-      first = x;
-      second = y;
+      among = is.among;
+      line = is.line;
+      linked = front_of (tested_service 26) number_written l1;
+      paid = omega (arith, paid, n1);
+      there = at;
     })
-    (d.credits + 1) wanted g h is.among.stands (omega (arith, paid)) at calling
-    (λ f' less at'.
-    record {
-      to = record {
-        point = q;
-        numbers = d.numbers;
-        among = behind_among u a d.text (field_of d) d.rest d.left' is.among less;
-        since = omega (arith, since);
-        line = is.line;
-        state = refl;
-        are = is.are;
-        reach = stay code wanted f' (services_of q) _
-            (λ b. in_known h is.among.image.parts
-            (record { pc = (at' b).pc ∙ ap (address b) (two_more d.index i end); holds = (at' b).holds }));
+    (record {
+      small' = lit< tt;
+      coded = lit< tt;
+      some = refl;
+      serves = λ call r'. refl;
+      answers = λ b m. number_answer code p m r.text e is.among.entries;
+    })
+    (error place)
+    (λ c f v' height label s j. jumps_since since (jumps_down place u.block u.labels j))
+    (λ z g' shown at'.
+    let r' : Ready = record {
+      rest = r.rest;
+      width = width;
+      left' = r.left';
+      point = q;
+      numbers = r.numbers;
+      z = z;
+      credits = r.credits + 1 + 5;
+      index = r.index + 1 + 5;
+      family = g';
+    } in
+    subst (λ n. Comes code r'.credits g' (services_of q)
+    (before code (left_aims u acts' n wanted) w.acts last) (fields z w.acts q.state)) (omega (arith, n1, end))
+    (number_comes u a r' h acts' wanted
+    (record {
+      among = texts_among (placing place u.block) (TextEntry r.text ∷ []) [] is.among
+          (over_place place first'.entries first'.edits first'.layers a.over);
+      line = is.line;
+      next = is.next;
+      are = is.are;
+      wide = number_wide r.text z shown;
+      linked = back_of (tested_service 26) number_written l1;
+      paid = omega (arith, paid, n1);
+      there = λ b. record {
+        pc = (at' b).pc;
+        holds = record { body = (at' b).holds.body; regs = ((at' b).holds.regs.0, tt) };
       };
-    }))
-  where
-    two_more : (index i : ℕ) → index + 2 ≡ i → index + 1 + 1 ≡ i
-    two_more index i e = omega (arith, e)
+    })
+    since)))))
+
+-- an ERROR of a text that shows none comes to what it means, if the list has F items
+abbrev pub ErrsAsNumber : Puts → Type 0
+ErrsAsNumber u = has_fixed u.formats ≡ true → (place : EditPlace) → ErrorComes ℤ (within place (setting_in u))
+
+branch_comes :
+    (u : Puts) → ArePut u → ErrsAsNumber u → (item : DataItem) → IsItem (kinds_of u.formats) item →
+    (r : Chosen) (h : frame_of u.block r.point) (acts' wanted i : ℕ) →
+    IsChosen u item r h (branch_of item by_fixed text_written) acts' →
+    r.index + size_of (branch_of item by_fixed text_written) ≡ i →
+    Comes u.block.call.code r.credits r.family (services_of r.point) (left_aims u acts' i wanted)
+    (((P.shown_by (setting_in u).around (ComputationalText r.text) item) >> give r.left')
+    u.block.call.surroundings.acts r.point.state)
+branch_comes u a error (FixedItem width) fits r h acts' wanted i is end =
+    fixed_branch u a (error fits) width r h acts' wanted i is end
+branch_comes u a error (TextItem width) fits r h acts' wanted i is end =
+    text_branch u a width r h acts' wanted i is end
 
 -- ---- one text
 
 pub text_goes :
-    (u : Puts) → u.textual ≡ true → ArePut u → (x : Y.Text) →
+    (u : Puts) → ArePut u → ErrsAsNumber u → (x : Y.Text) →
     ((place : EditPlace) → TextDoes [] (within place (setting_in u)) u.need x) → ItemGoes u (text_item x)
-unfolding P.item_put V.computational ◌>>=◌ ◌>>◌ give
-text_goes u texts a x does d acts' wanted i is l end =
+unfolding P.item_put V.computational ◌>>=◌ give
+text_goes u a error x does d acts' wanted i is l end enough =
     let w = u.block.call.surroundings in
     let code = u.block.call.code in
     let p = d.point in
     let around = (setting_in u).around in
     let place = putting (whole_in u) d.rest in
     let part = text_code u.block.environment (set_aside u.words) x in
-    let same = item_coded u texts a x in
-    let l' = subst (Linked w.links code d.index) same l in
-    let n0 = size_append part text_shown in
-    let n1 = ap (λ c. size_of c) same in
-    let n2 = size_append controls_carried_out text_written in
+    let n0 = size_append part (text_shown u) in
+    let n2 = size_append controls_carried_out (choice_code u) in
+    let least = chosen_size u by_fixed text_written (omega arith) (omega arith) in
     let y = behind p d.numbers 0 d.credits d.index part in
     let goal = left_aims u acts' i wanted in
     let paid = is.paid in
@@ -275,11 +337,11 @@ text_goes u texts a x does d acts' wanted i is l end =
     let next0 : List ℕ → Meaning Computational = λ t. give (ComputationalText t) in
     let next1 : Computational → Meaning (List FormatItem) =
     λ v. (P.next_item P.control_put (whole_in u) d.rest) >>= (λ next. (P.shown_by around v next.0) >> give next.1) in
-    let lc = back_of part text_shown l' in
+    let lc = back_of part (text_shown u) l in
     comes_on w.acts (V.computational around (Y.TextValue x) w.acts p.state) next1
     (comes_on w.acts flow next0
     (comes_map (text_aims [] (within place (setting_in u)) y)
-    (before code (before code goal w.acts next1) w.acts next0) flow
+    (before code (before code goal w.acts next1) w.acts next0) refl flow
     (λ c1 f1 v1 text s1 q.
     let more = q.since in
     let p1 = q.point in
@@ -289,53 +351,66 @@ text_goes u texts a x does d acts' wanted i is l end =
     λ next. (P.shown_by around (ComputationalText text) next.0) >> give next.1 in
     let flow2 = P.next_item P.control_put (whole_in u) d.rest w.acts p1.state in
     record {
-      to = subst (λ s. Comes code c1 f1 v1 goal (next1 (ComputationalText text) w.acts s)) (sym q.state)
+      to = λ early. subst (λ s. Comes code c1 f1 v1 goal (next1 (ComputationalText text) w.acts s)) (sym q.state)
           (onward (left_closed u acts' i wanted) q.reach
           (λ g at.
           comes_on w.acts flow2 next2
-          (comes_map (found_aims loop) (before code goal w.acts next2) flow2
+          (comes_map (found_aims loop) (before code goal w.acts next2) refl flow2
           (λ c2 f2 v2 next s2 o.
           let few = o.few in
-          let item = an_item u.textual o.item texts o.fits in
-          let last : Unit {0} → Meaning (List FormatItem) = λ t. give o.left' in
-          let due : Due = record {
-            text = text;
-            rest = o.rest;
-            left' = o.left';
-            width = item.0;
+          subst (λ n. Comes code c2 f2 v2 goal (next2 n w.acts s2)) (sym o.next_is)
+          (subst (λ s3. Comes code c2 f2 v2 goal (next2 (o.item, o.left') w.acts s3)) (sym o.state)
+          (onward (left_closed u acts' i wanted) o.reach
+          (λ g2 at2.
+          let c : Choice = record {
+            fixed = by_fixed;
+            text = text_written;
+            item = o.item;
             point = o.point;
             numbers = q.numbers;
             credits = o.credits;
             index = y.index + 5;
-            family = reached o.reach;
+            family = g2;
           } in
-          subst (λ n. Comes code c2 f2 v2 goal (next2 n w.acts s2))
-          (sym (o.next_is ∙ ap (λ j. (j, o.left')) item.1))
-          (subst (λ s3. Comes code c2 f2 v2 goal (next2 (TextItem item.0, o.left') w.acts s3)) (sym o.state)
-          (onward (left_closed u acts' i wanted) o.reach
-          (λ g2 at2.
-          comes_on w.acts (P.shown_by around (ComputationalText text) (TextItem item.0) w.acts o.point.state) last
-          (subst (λ (m : Meaning (Unit {0})). Comes code o.credits g2 (services_of o.point)
-          (before code goal w.acts last) (m w.acts o.point.state)) (sym (shown_is around text item.0))
-          (field_comes u a (record due { family = g2 }) o.frame
+          chosen_comes u c o.frame acts' i wanted (next2 (o.item, o.left') w.acts o.point.state)
+          (record {
+            fits = o.fits;
+            linked = back_of controls_carried_out (choice_code u) lc;
+            there = at2;
+          })
+          (omega (arith, enough, n0, n2)) (omega (arith, end, n0, n2))
+          (λ index credits end' wanted' g3 l3 e few' there.
+          branch_comes u a error o.item o.fits
+          (record {
+            text = text;
+            rest = o.rest;
+            left' = o.left';
+            point = o.point;
+            numbers = q.numbers;
+            credits = credits;
+            index = index;
+            family = g3;
+          })
+          o.frame acts' wanted' end'
           (record {
             among = o.here.among;
             line = o.here.line;
-            next = o.current_is ∙ ap (λ j. DataFormat j ∷ o.left') item.1;
+            next = o.current_is;
             are = o.are;
-            linked = back_of controls_carried_out text_written lc;
-            paid = omega (arith, paid, few, n0, n1, n2);
-            there = at2;
+            since = o.here.since;
+            linked = l3;
+            paid = omega (arith, paid, few, few', n0, n2);
+            there = there;
           })
-          acts' wanted i o.here.since (omega (arith, n0, n1, n2, end))))))))
+          e)))))
           (λ c2 f2 v2 height label s2 z. absurd z)
           (λ c2 f2 v2 r s2 z. absurd z)
           (next_comes loop
           (record {
             acts = a.acts;
             over = over_more (TextEntry text ∷ []) first.entries first.edits first.layers a.over;
-            linked = front_of controls_carried_out text_written lc;
-            paid = omega (arith, paid, n0, n1, n2);
+            linked = front_of controls_carried_out (choice_code u) lc;
+            paid = omega (arith, paid, n0, n2, least);
             are = a.are;
             some = a.some;
           })
@@ -346,33 +421,5 @@ text_goes u texts a x does d acts' wanted i is l end =
     (λ c1 f1 v1 height label s q. jumps_since since (jumps_down place u.block u.labels q))
     (λ c1 f1 v1 r s q. absurd q)
     (does place p d.numbers 0 d.credits d.index d.family is.among is.line
-    (let room = a.registers in omega (arith, room), a.held) (front_of part text_shown l')
-    (omega (arith, paid, n0, n1)) is.there)))
-
--- ---- a list of them
-
-texts_go :
-    (u : Puts) → u.textual ≡ true → ArePut u → (xs : List Y.Text) → TextsDo (setting_in u) u.need xs →
-    AllGo u (text_items xs)
-texts_go u texts a [] does = tt
-texts_go u texts a (x ∷ xs) does = (text_goes u texts a x does.0, texts_go u texts a xs does.1)
-
-pub text_list :
-    (words : ℕ) (k : Block) (labels : List Label) (line need most : ℕ) (first : Y.Text) (more : List Y.Text)
-    (formats : T.Formats) → IsTextual formats → KnowsFormats k formats →
-    TextsDo (setting_around words k labels line most) need (first ∷ more) →
-    ListGoes words k labels line need most (record { items = text_items (first ∷ more); formats = formats })
-text_list words k labels line need most first more formats is knows does =
-    record {
-      textual = true;
-      fixed = is.fixed;
-      text = is.text;
-      are = is.are;
-      some = is.some;
-      knows = knows;
-      item = text_item first;
-      items = text_items more;
-      shown = refl;
-      go = λ first' more' a.
-          texts_go (puts_of true words k labels formats line need most first' more') refl a (first ∷ more) does;
-    }
+    (let room = a.registers in omega (arith, room), a.held) (front_of part (text_shown u) l)
+    (omega (arith, paid, n0)) is.there)))

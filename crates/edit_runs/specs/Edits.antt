@@ -67,17 +67,29 @@ has_data [] = false
 has_data (DataFormat item ∷ items) = true
 has_data (ControlFormat item ∷ items) = has_data items
 
--- an F item, or an A item
-abbrev pub IsItem : (textual : Bool) → DataItem → Type 0
-IsItem false (FixedItem width) = ⊤
-IsItem true (TextItem width) = ⊤
-IsItem textual item = ⊥
+-- which data items a list has: F items, A items, or both
+pub record Kinds : Type 0 where
+  pub fixed : Bool
+  pub text : Bool
 
--- their data items are all of a kind
-abbrev pub AreItems : (textual : Bool) → List FormatItem → Type 0
-AreItems textual [] = ⊤
-AreItems textual (DataFormat item ∷ items) = IsItem textual item × AreItems textual items
-AreItems textual (ControlFormat item ∷ items) = AreItems textual items
+abbrev pub numbers_only : Kinds
+numbers_only = record { fixed = true; text = false }
+
+abbrev pub texts_only : Kinds
+texts_only = record { fixed = false; text = true }
+
+abbrev pub kinds_of : T.Formats → Kinds
+kinds_of fs = record { fixed = has_fixed fs; text = has_text fs }
+
+abbrev pub IsItem : Kinds → DataItem → Type 0
+IsItem kinds (FixedItem width) = kinds.fixed ≡ true
+IsItem kinds (TextItem width) = kinds.text ≡ true
+
+-- their data items are of these kinds
+abbrev pub AreItems : Kinds → List FormatItem → Type 0
+AreItems kinds [] = ⊤
+AreItems kinds (DataFormat item ∷ items) = IsItem kinds item × AreItems kinds items
+AreItems kinds (ControlFormat item ∷ items) = AreItems kinds items
 
 -- a list of F items, one at least, and of control items
 pub record IsFixed (fs : T.Formats) : Type 0 where

@@ -4,3 +4,4 @@ pub mod Edits
 pub mod TextEdits
 pub mod SkipRows
 pub mod FormatRows
+pub mod MixedEdits

@@ -16,13 +16,13 @@ use Rattle.expression_runs.specs.Values.{Setting}
 use Rattle.text_runs.specs.Laws.{TextDoes}
 use Rattle.text_runs.specs.Texts.{ErrorComes}
 use Rattle.edit_runs.specs.Edits.{AreItems, IsFixed, IsSkipped, Item, ItemsDo, KnowsFormats, Pair, has_data}
-use Rattle.edit_runs.specs.Edits.{put_items, within}
+use Rattle.edit_runs.specs.Edits.{put_items, texts_only, within}
 
 -- a list of A items, one at least, and of control items
 pub record IsTextual (fs : T.Formats) : Type 0 where
   pub fixed : has_fixed fs ≡ false
   pub text : has_text fs ≡ true
-  pub are : AreItems true (format_items fs)
+  pub are : AreItems texts_only (format_items fs)
   pub some : has_data (format_items fs) ≡ true
 
 -- ---- the statement

@@ -2,6 +2,7 @@
 
 ghost use Rattle.edit_runs.specs.Edits.{PlacesWait, PutsDo};
 ghost use Rattle.edit_runs.specs.FormatRows.{NumbersShown};
+ghost use Rattle.edit_runs.specs.MixedEdits.{MixedPutsDo};
 ghost use Rattle.edit_runs.specs.SkipRows.{RuledRan};
 ghost use Rattle.edit_runs.specs.Skips.{SkipsDo};
 ghost use Rattle.edit_runs.specs.TextEdits.{DataPutsDo};
@@ -34,6 +35,12 @@ pub fn puts_do()
 /// that knows the format lists.
 pub fn data_puts_do()
     ensures { DataPutsDo }
+{}
+
+/// PUT EDIT of numbers and texts by any lists does what it means, in a block that knows the format lists: what a list
+/// has next shows each of them.
+pub fn mixed_puts_do()
+    ensures { MixedPutsDo }
 {}
 
 /// Worked rows: lists of F items, and a program that writes three numbers by one.

@@ -235,7 +235,7 @@ puts_waiting k x b is aims z wide need s outside begun waiting closed p numbers 
     subst (Comes code (c3 + size_of back) g3 (services_of q) aims)
     (sym (assigned_is b holds.serial holds.values i z w.acts q.state))
     (record {
-      to =
+      to = λ early.
           next' (behind_assigned q a) after (c3 + size_of back) g3 (services_of q) (assigned_among a among2)
           (omega (arith, since))
           (subst (λ n. Reach code (c3 + size_of back) g3 (services_of q) n (services_of (behind_assigned q a))
@@ -279,7 +279,7 @@ puts_simple k x b is aims z wide need s simple outside begun closed p numbers ta
     subst (Comes code c3 g2 (services_of p) aims)
     (sym (assigned_is b holds.serial holds.values n.z z w.acts p.state))
     (record {
-      to =
+      to = λ early.
           next' (behind_assigned p a) numbers c3 g2 (services_of p) (assigned_among a o) (omega arith)
           (subst (λ m. Reach code c3 g2 (services_of p) m (services_of (behind_assigned p a))
           (λ b' y. IsIn w (behind_assigned p a) numbers
@@ -358,12 +358,12 @@ assign_with words k labels x b s source line index left' first second most h out
     comes_on w.acts (source' w.acts p'.state) (λ v. put_in k x s line v)
     (comes_on w.acts flow fit
     (comes_map (number_aims k labels y)
-    (before code (before code owed w.acts (λ v. put_in k x s line v)) w.acts fit) flow
+    (before code (before code owed w.acts (λ v. put_in k x s line v)) w.acts fit) refl flow
     (λ c' f' v' z u q.
     subst (Comes code c' f' v' (before code owed w.acts (λ v. put_in k x s line v)))
     (sym (fit_is around' z w.acts u q.0))
     (record {
-      to =
+      to = λ early.
           let q1 = q.1.point in
           let since = q.1.since in
           subst (λ j. Comes code c' f' v' owed (put_in k x s line (BasicNumber z) w.acts j)) (sym q.1.state)
@@ -372,8 +372,10 @@ assign_with words k labels x b s source line index left' first second most h out
           let h2 = point_frame q.1.among.stands q.1.among.image in
           puts_does (setting_around words k labels line most) x b h.array owed z q.0 second s outside h.begun subscript
           closed q1
-          q.1.numbers 0 y.wanted y.index g2
-          (λ c3 f3 v3 height label s3 j i0 f0 v0 from. jumps_repaid debt from (jumps_since (omega (arith, since)) j))
+          q.1.numbers 0 y.wanted y.index g2 (
+            refl,
+            λ c3 f3 v3 height label s3 j i0 f0 v0 from. jumps_repaid debt from (jumps_since (omega (arith, since)) j),
+          )
           h2 q.1.among q.1.line (omega (arith, room2), h.held)
           (linked_at (index + size_of one + size_of value') store' (omega (arith, n2)) ls)
           (omega (arith, all, n0, n1, n2)) (λ b'. known_word k h2 (at2 b'))

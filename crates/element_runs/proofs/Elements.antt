@@ -108,7 +108,7 @@ behind_does k {p} {numbers} {index} {ys} {aims} x b is outside begun closed jump
     (linked_at (index + size_of (tested_code b)) there' (omega (arith, n1)) lf) at1 in
     onward closed r (λ f2 at2.
     record {
-      to =
+      to = λ early.
           subst (λ n. aims.done n f2 v (designated_element b a.0.serial a.0.values i) p.state) (omega (arith, n1, n2))
           (next' between a.0 e f2 (λ b'. record {
             pc = (at2 b').pc ∙ ap (address b') (omega (arith, n1, n2));
@@ -191,7 +191,7 @@ waiting_does k {aims} x b is s need outside begun ev closed p numbers taken c in
     (subst (Comes code c f (services_of p) goal) (sym (numbers_meant k.around s w.acts p.state))
     (comes_on w.acts (V.number k.around s w.acts p.state) (λ z. only k.around z)
     (comes_map (number_aims k.block k.labels (behind p numbers taken c index part))
-    (before code goal w.acts (λ z. only k.around z)) (V.number k.around s w.acts p.state)
+    (before code goal w.acts (λ z. only k.around z)) jumps.0 (V.number k.around s w.acts p.state)
     (λ c1 f1 v1 z s1 q1.
     let o1 = q1.1 in
     let p1 = o1.point in
@@ -202,7 +202,7 @@ waiting_does k {aims} x b is s need outside begun ev closed p numbers taken c in
     let among = held_among k taken 1 (word z) one (omega arith) small' o1.among in
     subst (Comes code c1 f1 v1 goal) (sym (only_is k.around z w.acts s1))
     (record {
-      to =
+      to = λ early.
           subst (λ u. Comes code c1 f1 v1 aims (checks k x (z ∷ []) w.acts u)) (sym o1.state)
           (onward closed o1.reach
           (λ g1 at1.
@@ -217,7 +217,7 @@ waiting_does k {aims} x b is s need outside begun ev closed p numbers taken c in
           (linked_at i2 back (omega (arith, n1, n2)) (front_of back test l2)) at2)
           (λ g3 at3.
           behind_does k x b is outside begun closed
-          (λ c' f' v' height label s' q. jumps c' f' v' height label s' (jumps_since since q)) h1 among
+          (jumps.0, λ c' f' v' height label s' q. jumps.1 c' f' v' height label s' (jumps_since since q)) h1 among
           (o1.line ∙ line) nothing_beside c3 g3 z q1.0
           (linked_at i3 test (omega (arith, n1, n2)) (back_of back test l2))
           (linked_at (i3 + size_of test) last (omega (arith, n1, n2, n3)) (back_of (back ++ test) last l1))
@@ -232,7 +232,7 @@ waiting_does k {aims} x b is s need outside begun ev closed p numbers taken c in
             holds = (finds b').holds;
           })))))));
     }))
-    (λ c1 f1 v1 height label s1 q1. jumps c1 f1 v1 height label s1 q1)
+    (λ c1 f1 v1 height label s1 q1. jumps.1 c1 f1 v1 height label s1 q1)
     (λ c1 f1 v1 r s1 q1. absurd q1)
     (ev p numbers taken c index f o line (enough_need k taken need registers) (front_of part (put' ++ []) l0)
     (omega (arith, paid, n1, n5)) there)))))
@@ -281,10 +281,10 @@ simple_does k {aims} {ys} x b is s outside begun closed beside p numbers taken c
     (comes_on w.acts (V.number k.around s w.acts p.state) (λ z. only k.around z)
     (subst (Comes code c f (services_of p) (before code goal w.acts (λ z. only k.around z))) (sym n.meant)
     (record {
-      to =
+      to = λ early.
           subst (Comes code c f (services_of p) goal) (sym (only_is k.around n.z w.acts p.state))
           (record {
-            to =
+            to = λ early.
                 onward closed (n.brings ys c index f beside (front_of part test l2) at)
                 (λ g3 at3.
                 behind_does k x b is outside begun closed jumps h o line beside c3 g3 n.z n.wide
@@ -396,7 +396,7 @@ element_does k x b s need begun is outside subscript p numbers taken c index f o
     (comes_on w.acts (V.designated k.around (element x s) w.acts p.state) (λ d. number_of d)
     (located_does k (before code goal w.acts (λ d. number_of d)) x b is s need outside begun subscript
     (before_closed w.acts (λ d. number_of d) closed) p numbers taken c index f
-    (λ c' f' v' height label s' q. q) o line registers (front_of r (loads e x) l')
+    (refl, λ c' f' v' height label s' q. q) o line registers (front_of r (loads e x) l')
     (omega (arith, paid, size, n1)) there
     (λ q after h i between among since line' stays holds el f' finds.
     let base = first_base in
@@ -412,7 +412,7 @@ element_does k x b s need begun is outside subscript p numbers taken c index f o
     subst (Comes code (c + size_of r) f' (services_of q) goal)
     (sym (number_is b holds.serial holds.values i el.y w.acts q.state el.value))
     (record {
-      to = (
+      to = λ early. (
         el.wide,
         record {
           point = q;

@@ -41,6 +41,7 @@ use Rattle.element_runs.specs.Arrays.{IsBounds, constant_bounds}
 use Rattle.element_runs.specs.Subscripts.{SubscriptComes, error_aims}
 use Rattle.element_runs.proofs.Bounds.{between_tested, distance_is, distance_word, is_between, opposite_small, place_at}
 use Rattle.element_runs.proofs.Bounds.{range_small, same_number}
+use Rattle.block_runs.specs.Machines.{limits_of}
 
 -- ---- what is known beside
 
@@ -125,8 +126,9 @@ tested_skip = skip_where Test.GreaterOrEqualUnsigned u2 u1 (error_raised subscri
 -- where a flow is left by a jump
 abbrev pub Jumps : {X : Type 0} → Setting → (acts : ℕ) → Aims X → Type 0
 Jumps k acts aims =
-    (c : ℕ) (f : Family) (v : Services) (height : ℕ) (label : Label) (s : State) →
-    JumpsTo k.block k.labels acts c f v height label s → aims.jumped c f v height label s
+    (aims.limits ≡ limits_of k.block.call.surroundings)
+    × ((c : ℕ) (f : Family) (v : Services) (height : ℕ) (label : Label) (s : State) →
+    JumpsTo k.block k.labels acts c f v height label s → aims.jumped c f v height label s)
 
 abbrev pub tested_code : Bounds → Code
 tested_code b = subscript_counted 0 (constant_bounds b)
@@ -214,7 +216,7 @@ tested_does k {p} {numbers} {i} {ys} {aims} outside closed jumps h o line beside
     by true e f2 l' place paid' size at2 =
         onward closed (skip_taken d f2 Test.GreaterOrEqualUnsigned u2 u1 (error_raised subscript_code) l' at2
         (tests true e f2 at2)) (λ f3 at3. record {
-          to =
+          to = λ early.
               subst (λ n. aims.done n f3 (services_of p) tt p.state) size
               (next' e f3 (λ b'. record {
                 pc = (at3 b').pc ∙ ap (address b') (sym place);
@@ -227,8 +229,8 @@ tested_does k {p} {numbers} {i} {ys} {aims} outside closed jumps h o line beside
     by false e f2 l' place paid' size at2 =
         onward closed (skip_passed d f2 Test.GreaterOrEqualUnsigned u2 u1 (error_raised subscript_code) l' at2
         (tests false e f2 at2)) (λ f3 at3.
-        comes_map (error_aims k.block k.labels p.state.world.acts) aims
+        comes_map (error_aims k.block k.labels p.state.world.acts) aims jumps.0
         (R.error {R = Unit {0}} k.around 102 k.block.call.surroundings.acts p.state)
-        (λ c' f' v' u s q. absurd q) jumps (λ c' f' v' u s q. absurd q)
+        (λ c' f' v' u s q. absurd q) jumps.1 (λ c' f' v' u s q. absurd q)
         (outside p numbers (d + 1) (j + 1) f3 o line (rest_of _ (error_raised subscript_code) l')
         (omega (arith, paid')) (λ b'. in_known h o.image.parts (at3 b'))))

@@ -14,7 +14,7 @@ use Rattle.activation_relation.specs.Layers.{Point, services_of}
 use Rattle.activation_relation.specs.ServiceLaws.{IsSystem}
 use Rattle.run_steps.specs.Items.{Linked}
 use Rattle.run_steps.specs.Reach.{Aims, Comes, Family, cost}
-use Rattle.block_runs.specs.Machines.{AreIn}
+use Rattle.block_runs.specs.Machines.{AreIn, limits_of}
 use Rattle.program_runs.specs.Statements.{Block, IsAmong, JumpsTo}
 use Rattle.expression_runs.specs.Laws as L
 use Rattle.expression_runs.specs.Raises.{Routines}
@@ -27,6 +27,7 @@ use Rattle.expression_runs.specs.Variables.{IsNumber, Spot, whole}
 abbrev pub error_aims : Block → List Label → (acts : ℕ) → Aims (Unit {0})
 error_aims k labels acts =
     record {
+      limits = limits_of k.call.surroundings;
       done = λ c f v r s. ⊥;
       jumped = λ c f v height label s. JumpsTo k labels acts c f v height label s;
       returned = λ c f v r s. ⊥;

@@ -51,7 +51,7 @@ constant_does k n few p numbers taken c index f o line registers l paid there =
     let r = constant_piece {t = λ i. 0} {rs = nothing} c f a0 (pos n) (word_small (pos n) wide)
     (record { reserved_stay = λ y u. refl; known_stay = λ b y u q. q; set = λ y u. refl }) l
     (λ b. known_in h (there b) tt) in
-    record { to = (wide, word_here {x = behind p numbers taken c index part} h o (omega arith) refl r) }
+    record { to = λ early. (wide, word_here {x = behind p numbers taken c index part} h o (omega arith) refl r) }
 
 -- ---- two operands
 
@@ -123,7 +123,7 @@ both_do k m n left right last first second next' el er op p numbers taken c inde
     let closed = number_closed k.block k.labels whole in
     let rest : ℤ → Meaning ℤ = λ x. second >>= (λ y. next' x y) in
     comes_on w.acts (first w.acts p.state) rest
-    (comes_map (number_aims k.block k.labels (behind p numbers taken c index a)) (before code goal w.acts rest)
+    (comes_map (number_aims k.block k.labels (behind p numbers taken c index a)) (before code goal w.acts rest) refl
     (first w.acts p.state)
     (λ c1 f1 v1 x s1 q1.
     let o1 = q1.1 in
@@ -145,7 +145,7 @@ both_do k m n left right last first second next' el er op p numbers taken c inde
     let i2 = index + size_of a + size_of put' in
     comes_on w.acts (second w.acts p1.state) (λ y. next' x y)
     (comes_map (number_aims k.block k.labels (behind p1 held (taken + 1) c2 i2 part2))
-    (before code goal w.acts (λ y. next' x y)) (second w.acts p1.state)
+    (before code goal w.acts (λ y. next' x y)) refl (second w.acts p1.state)
     (λ c3 f3 v3 y s3 q3.
     let o3 = q3.1 in
     let p3 = o3.point in

@@ -103,7 +103,7 @@ checked_does k over p numbers taken credits index f z x c d h o line registers i
         (R.value_of k.around (cond q (Gives z) (Raises C.FixedOverflow 20 (wrapped 31 z))) acts p.state)) (sym e)
         (onward (number_closed k.block k.labels whole) r
         (λ g at'. record {
-          to = (
+          to = λ early. (
             e,
             word_here {x = whole} h o (omega arith) refl
                 (stay k.block.call.code whole.wanted g (services_of p)
@@ -129,9 +129,9 @@ checked_does k over p numbers taken credits index f z x c d h o line registers i
         (λ g at'.
         comes_on acts flow next'
         (comes_map (word_aims k.block k.labels (behind p numbers taken (credits + 1) (index + 1) raise') x)
-        (before k.block.call.code goal acts next') flow
+        (before k.block.call.code goal acts next') refl flow
         (λ c' f' v' u s q. record {
-          to = (
+          to = λ early. (
             wrapped_wide z,
             subst (λ n. HasWord k.block whole n c' f' v' s) is.word_is
                 (word_further

@@ -228,7 +228,7 @@ variable_does k x begun is p numbers taken c index f o line registers l paid the
     (number_aims k.block k.labels (behind p numbers taken c index (number_code e t (Y.NumberIn (whole x))))) flow)
     (sym (number_is k.around w.acts n.z n.holds n.value))
     (record {
-      to = (
+      to = λ early. (
         n.wide,
         subst (λ j. HasWord k.block (at_end j) (word n.z) c f (services_of p) p.state) (sym size)
             (word_here {x = at_end (size_of part)} h o (omega arith) refl r),

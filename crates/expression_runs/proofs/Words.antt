@@ -106,7 +106,7 @@ pub number_further :
     IsFurther x y → Comes k.call.code c f v (number_aims k labels x) flow →
     Comes k.call.code c f v (number_aims k labels y) flow
 number_further {k} {labels} {x} {y} {flow = flow} i o =
-    comes_map (number_aims k labels x) (number_aims k labels y) flow
+    comes_map (number_aims k labels x) (number_aims k labels y) refl flow
     (λ c f v z s q. (q.0, word_further i q.1))
     (λ c f v height label s q. jumps_since i.acts q)
     (λ c f v r s q. absurd q)

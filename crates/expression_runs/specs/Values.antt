@@ -18,7 +18,7 @@ use Rattle.run_steps.specs.Engine.{Base}
 use Rattle.run_steps.specs.Items.{Linked}
 use Rattle.run_steps.specs.Numbers.{IsWide}
 use Rattle.run_steps.specs.Reach.{Aims, Comes, Family, Reach, cost}
-use Rattle.block_runs.specs.Machines.{AreIn, IsIn}
+use Rattle.block_runs.specs.Machines.{AreIn, IsIn, limits_of}
 use Rattle.program_runs.specs.Statements.{Block, IsAmong, JumpsTo}
 
 -- ---- a value
@@ -55,6 +55,7 @@ pub record HasWord (k : Block) (x : Stretch) (given : ℕ) (credits : ℕ) (f : 
 abbrev pub number_aims : Block → List Label → Stretch → Aims ℤ
 number_aims k labels x =
     record {
+      limits = limits_of k.call.surroundings;
       done = λ c f v z s. IsWide z × HasWord k x (word z) c f v s;
       jumped = λ c f v height label s. JumpsTo k labels x.acts c f v height label s;
       returned = λ c f v r s. ⊥;
@@ -64,6 +65,7 @@ number_aims k labels x =
 abbrev pub word_aims : Block → List Label → Stretch → (given : ℕ) → Aims (Unit {0})
 word_aims k labels x given =
     record {
+      limits = limits_of k.call.surroundings;
       done = λ c f v r s. HasWord k x given c f v s;
       jumped = λ c f v height label s. JumpsTo k labels x.acts c f v height label s;
       returned = λ c f v r s. ⊥;

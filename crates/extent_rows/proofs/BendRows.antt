@@ -43,12 +43,12 @@ use Rattle.activation_relation.proofs.Remaining.{numbers_remain}
 use Rattle.run_steps.proofs.Jumps.{back_of, first_of, front_of, rest_of}
 use Rattle.run_steps.proofs.Linking.{linked_length}
 use Rattle.run_steps.specs.Numbers.{IsWide}
-use Rattle.run_steps.specs.Reach.{Comes, never}
+use Rattle.run_steps.specs.Reach.{Comes}
 use Rattle.program_runs.specs.Calls.{IsCallee, begun_at, body_index, left_over}
 use Rattle.program_runs.specs.Procedures.{HasRoom, block_of, frame_for, layer_for}
 use Rattle.program_runs.specs.Rows.{row_head}
 use Rattle.program_runs.specs.Programs.{IsWhole, main_of}
-use Rattle.program_runs.specs.Starts.{first_family, image_parts, main_called, no_numbers, start_point}
+use Rattle.program_runs.specs.Starts.{first_family, image_parts, main_called, no_numbers, start_point, never_in}
 use Rattle.program_runs.specs.Starts.{surroundings_of}
 use Rattle.program_runs.specs.Statements.{Block, Does, EachDoes, IsAmong, IsBegun}
 use Rattle.program_runs.specs.VariableRows as W
@@ -630,7 +630,7 @@ pub bend_runs :
     length first ≡ memory_size → IsListTold constants →
     AreTold constants (4 * length (linked_code bend_code)) image_parts.stack_start first →
     Comes (linked_code bend_code) 0 (first_family first (services_of (start_point (bend_image constants input acts))))
-    (services_of (start_point (bend_image constants input acts))) never
+    (services_of (start_point (bend_image constants input acts))) (never_in (bend_image constants input acts))
     (run bend_program (suc acts) acts (first_state input))
 bend_runs keeps constants input first acts few bytes list told =
     unit_program_runs keeps (bend_whole constants input acts) first (bend_is constants input first acts few bytes told)

@@ -44,11 +44,11 @@ use Rattle.run_steps.specs.Items.{Linked}
 use Rattle.run_steps.proofs.Jumps.{back_of, first_of, front_of, rest_of}
 use Rattle.run_steps.proofs.Linking.{linked_length}
 use Rattle.run_steps.specs.Numbers.{IsWide}
-use Rattle.run_steps.specs.Reach.{Comes, never}
+use Rattle.run_steps.specs.Reach.{Comes}
 use Rattle.program_runs.specs.Calls.{IsCallee, begun_at, body_index, left_over}
 use Rattle.program_runs.specs.Procedures.{HasRoom, frame_for, layer_for}
 use Rattle.program_runs.specs.Programs.{IsWhole, main_of}
-use Rattle.program_runs.specs.Starts.{first_family, image_parts, main_called, no_numbers, start_point}
+use Rattle.program_runs.specs.Starts.{first_family, image_parts, main_called, no_numbers, start_point, never_in}
 use Rattle.program_runs.specs.Starts.{surroundings_of}
 use Rattle.program_runs.specs.Statements.{Block, Does, EachDoes, IsAmong, IsBegun}
 use Rattle.program_runs.specs.VariableRows as W
@@ -590,7 +590,7 @@ pub grow_runs :
     length first ≡ memory_size → IsListTold constants →
     AreTold constants (4 * length (linked_code grow_code)) image_parts.stack_start first →
     Comes (linked_code grow_code) 0 (first_family first (services_of (start_point (grow_image constants input acts))))
-    (services_of (start_point (grow_image constants input acts))) never
+    (services_of (start_point (grow_image constants input acts))) (never_in (grow_image constants input acts))
     (run grow_program (suc acts) acts (first_state input))
 grow_runs keeps constants input first acts few bytes list told =
     program_runs keeps (grow_whole constants input acts) first (grow_is constants input first acts few bytes told)

@@ -22,10 +22,10 @@ use Rattle.pli_coding.specs.StaticForms.{bounds_datum}
 use Rattle.storage_relation.specs.Stored.{AreTold}
 use Rattle.activation_relation.specs.Chains.{UnitPlaces}
 use Rattle.activation_relation.specs.Layers.{services_of}
-use Rattle.run_steps.specs.Reach.{Comes, never}
+use Rattle.run_steps.specs.Reach.{Comes}
 use Rattle.program_runs.specs.Procedures.{Procedure, begin_of, procedure_code}
 use Rattle.program_runs.specs.Rows.{row_head}
-use Rattle.program_runs.specs.Starts.{Image, first_family, image_parts, start_of, start_point}
+use Rattle.program_runs.specs.Starts.{Image, first_family, image_parts, start_of, start_point, never_in}
 use Rattle.expression_runs.specs.Assignments.{assignment}
 use Rattle.expression_runs.specs.Variables.{Spot, number_declared, whole}
 use Rattle.unit_runs.specs.Establishing.{OnUnit, on_of, unit_index, unit_of}
@@ -184,7 +184,7 @@ pub record BendRan : Type 0 where
       AreTold constants (4 * length (linked_code bend_code)) image_parts.stack_start first →
       Comes (linked_code bend_code) 0
       (first_family first (services_of (start_point (bend_image constants input acts))))
-      (services_of (start_point (bend_image constants input acts))) never
+      (services_of (start_point (bend_image constants input acts))) (never_in (bend_image constants input acts))
       (run bend_program (suc acts) acts (first_state input))
   -- that ends with one condition raised: the bound is 3, of what the first sum left and the 5 that the unit assigned
   pub ends :

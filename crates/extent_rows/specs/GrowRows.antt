@@ -23,10 +23,10 @@ use Rattle.pli_coding.specs.StaticForms.{bounds_datum}
 use Rattle.storage_relation.specs.Fills.{Fills}
 use Rattle.storage_relation.specs.Stored.{AreTold}
 use Rattle.activation_relation.specs.Layers.{services_of}
-use Rattle.run_steps.specs.Reach.{Comes, never}
+use Rattle.run_steps.specs.Reach.{Comes}
 use Rattle.program_runs.specs.Procedures.{Procedure, procedure_code}
 use Rattle.program_runs.specs.Rows.{row_head}
-use Rattle.program_runs.specs.Starts.{Image, first_family, image_parts, start_of, start_point}
+use Rattle.program_runs.specs.Starts.{Image, first_family, image_parts, start_of, start_point, never_in}
 use Rattle.expression_runs.specs.Assignments.{assignment}
 use Rattle.expression_runs.specs.Variables.{Spot, number_declared, whole}
 use Rattle.extent_runs.specs.Arrays.{array_of, array_template, only_place}
@@ -181,7 +181,7 @@ pub record GrowRan : Type 0 where
       AreTold constants (4 * length (linked_code grow_code)) image_parts.stack_start first →
       Comes (linked_code grow_code) 0
       (first_family first (services_of (start_point (grow_image constants input acts))))
-      (services_of (start_point (grow_image constants input acts))) never
+      (services_of (start_point (grow_image constants input acts))) (never_in (grow_image constants input acts))
       (run grow_program (suc acts) acts (first_state input))
   -- that ends in the third call, since 400,000 elements pass the limit on what is AUTOMATIC
   pub ends :

@@ -5,7 +5,7 @@ use Rattle.pli_meaning.specs.Control.{Label}
 use Rattle.pli_meaning.specs.Executing as M
 use Rattle.pli_meaning.specs.World.{World, counted}
 use Rattle.activation_relation.specs.Layers.{Point}
-use Rattle.activation_relation.specs.Points.{AreFew, Stands, Surroundings}
+use Rattle.activation_relation.specs.Points.{AreFew, Stands, Surroundings, IsEarly}
 use Rattle.activation_relation.proofs.Remaining.{remains_acted, remains_entered, remains_then}
 use Rattle.activation_relation.proofs.Returning.{later_same}
 use Rattle.activation_relation.proofs.Serials.{few_acted, few_made}
@@ -138,11 +138,11 @@ procedures_entered w code c p numbers known few h words less =
     )
 
 pub behind_entered :
-    (w : Surroundings) (code : List Instr) (c : Callee) (p q : Point) (numbers : ℕ → ℕ) → AreFew w p →
+    (w : Surroundings) (code : List Instr) (c : Callee) (p q : Point) (numbers : ℕ → ℕ) → IsEarly w p →
     IsMadeUpTo w code c p numbers q → ((n : ℕ) → numbers n < 2 ^ 32) → q.state.world.acts < w.acts →
     IsBegun (block_from w code c p numbers (acted c.procedure.head.line q))
     × IsAmong (block_from w code c p numbers (acted c.procedure.head.line q)) numbers (acted c.procedure.head.line q)
-behind_entered w code c p q numbers few is words less =
+behind_entered w code c p q numbers early is words less =
     let line = c.procedure.head.line in
     let next' = acted line q in
     let same : q.state.world.acts ≡ p.state.world.acts = ap (λ (u : World). u.acts) is.world in
@@ -166,7 +166,7 @@ behind_entered w code c p q numbers few is words less =
         stands = new.0;
         image = new.1;
         later = later_same next';
-        few = few_made w p next' few is.few (omega (arith, same));
+        few = few_made w p next' early is.few (omega (arith, same, less));
         entries = refl;
         others = λ n more. refl;
         words = words;

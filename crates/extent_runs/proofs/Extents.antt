@@ -161,7 +161,7 @@ tested_does k x q numbers i aims outside closed jumps o line wl c f z wz l paid 
     by true e h f2 l' place paid' size at2 =
         onward closed (skip_taken d f2 Test.GreaterOrEqual a3 a2 (error_raised extent_code) l' at2
         (tests true e h f2 at2)) (λ f3 at3. record {
-          to =
+          to = λ early.
               subst (λ n. aims.done n f3 v tt q.state) size
               (next' e f3 (λ b.
               let is : At b (i + size_of (tested_code x)) (Known (point_ground w q h) v numbers (λ n. 0)
@@ -172,9 +172,9 @@ tested_does k x q numbers i aims outside closed jumps o line wl c f z wz l paid 
     by false e h f2 l' place paid' size at2 =
         onward closed (skip_passed d f2 Test.GreaterOrEqual a3 a2 (error_raised extent_code) l' at2
         (tests false e h f2 at2)) (λ f3 at3.
-        comes_map (error_aims k.block k.labels q.state.world.acts) aims
+        comes_map (error_aims k.block k.labels q.state.world.acts) aims jumps.0
         (R.error {R = Unit {0}} k.around extent_code w.acts q.state)
-        (λ c' f' v' u s g. absurd g) jumps (λ c' f' v' u s g. absurd g)
+        (λ c' f' v' u s g. absurd g) jumps.1 (λ c' f' v' u s g. absurd g)
         (outside q numbers (d + 1) (j + 1) f3 o line (rest_of _ (error_raised extent_code) l')
         (omega (arith, paid')) (λ b. in_known h o.image.parts (at3 b))))
 
@@ -279,10 +279,10 @@ value_goes k x p q numbers held credits index f z outside wl wz o since l paid t
     comes_on acts (R.demanded k.around extent_code (int_le x.lower z) acts q.state) next'
     (tested_does k x q held (index + size_of part) (before code aims acts next') outside
     (before_closed acts next' closed)
-    (λ c' f' v' height label s g. jumps_since {k = k.block} later g) o (since.2 ∙ since.1) wl
+    (refl, λ c' f' v' height label s g. jumps_since {k = k.block} later g) o (since.2 ∙ since.1) wl
     (credits + size_of part) f z wz l (omega (arith, paid, n)) there
     (λ e g at. record {
-      to = (
+      to = λ early. (
         z,
         refl,
         wz,
@@ -333,7 +333,8 @@ extents_do k x words wl outside does p numbers credits index f o line few l paid
     Comes code credits f (services_of p) (number_aims k.block k.labels (behind p numbers 0 credits index (part_of m)))
     flow) words (λ paid' l'. does p numbers 0 credits index f o line few l' paid' there) in
     comes_on acts flow next'
-    (comes_map (number_aims k.block k.labels (behind p numbers 0 credits index part)) (before code aims acts next') flow
+    (comes_map (number_aims k.block k.labels (behind p numbers 0 credits index part)) (before code aims acts next')
+    refl flow
     (λ c' f' v' z s g.
     let a = g.1 in
     onward closed a.reach (λ f2 at2.

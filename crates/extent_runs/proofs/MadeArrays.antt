@@ -50,9 +50,9 @@ use Rattle.run_steps.specs.Items.{Linked}
 use Rattle.run_steps.proofs.Jumps.{back_of, front_of}
 use Rattle.run_steps.proofs.Linking.{size_append}
 use Rattle.run_steps.specs.Numbers.{IsWide}
-use Rattle.run_steps.specs.Reach.{Aims, Closed, Comes, Family, Reach, cost, reached}
+use Rattle.run_steps.specs.Reach.{Aims, Closed, Comes, Family, Reach, cost, reached, ComesTo, GiveFew}
 use Rattle.run_steps.proofs.Reach.{onward, reach_then, reach_with, reached_holds, stay}
-use Rattle.block_runs.specs.Machines.{AreIn, IsImage, IsIn, acted}
+use Rattle.block_runs.specs.Machines.{AreIn, IsImage, IsIn, acted, limits_of}
 use Rattle.block_runs.proofs.CallStatements.{comes_map}
 use Rattle.program_runs.specs.Statements.{Block, IsAmong, IsBegun, JumpsOut, JumpsTo}
 use Rattle.program_runs.proofs.JumpsOut.{jumps_later, outs_since, returns_later}
@@ -223,18 +223,25 @@ made_bound b (a ∷ as') = refl
 -- ---- what it comes to, where its bound is known
 
 comes_known :
-    {Q R : Type 0} {code : List Instr} {c : ℕ} {f : Family} {v : Services} (A : Aims Q) (B : Aims R) (acts : ℕ)
-    (next' : Q → Meaning R) (flow : Flow Q) →
+    {Q R : Type 0} {code : List Instr} {c : ℕ} {f : Family} {v : Services} (A : Aims Q) (B : Aims R) →
+    B.limits ≡ A.limits → (acts : ℕ) (next' : Q → Meaning R) (flow : Flow Q) →
     ((r : Q) (s : State) → flow ≡ Normal r s → A.done c f v r s → Comes code c f v B (next' r acts s)) →
     ((height : ℕ) (label : Label) (s : State) → A.jumped c f v height label s → B.jumped c f v height label s) →
     ((r : Option BasicValue) (s : State) → A.returned c f v r s → B.returned c f v r s) →
     Comes code c f v A flow → Comes code c f v B (flow_on acts flow next')
-comes_known A B acts next' (Normal q s) d j t o = d q s refl o.to
-comes_known A B acts next' (Jump height label s) d j t o = record { to = j height label s o.to }
-comes_known A B acts next' (Return r s) d j t o = record { to = t r s o.to }
-comes_known A B acts next' (F.Ended s) d j t o = record { to = o.to }
-comes_known A B acts next' (Paused s) d j t o = record { to = o.to }
-comes_known A B acts next' Stuck d j t o = absurd o.to
+comes_known {Q} {R} {code} {c} {f} {v} A B same acts next' flow d j t o =
+    record { to = λ early. by flow d (o.to (subst (λ n. GiveFew code n f) same early)) early }
+  where
+    by :
+        (flow : Flow Q) →
+        ((r : Q) (s : State) → flow ≡ Normal r s → A.done c f v r s → Comes code c f v B (next' r acts s)) →
+        ComesTo code c f v A flow → GiveFew code B.limits f → ComesTo code c f v B (flow_on acts flow next')
+    by (Normal q s) d o early = (d q s refl o).to early
+    by (Jump height label s) d o early = j height label s o
+    by (Return r s) d o early = t r s o
+    by (F.Ended s) d o early = o
+    by (Paused s) d o early = o
+    by Stuck d o early = o
 
 -- a variable of the bound that was evaluated
 abbrev variable_with : EvaluatedArray → List ℤ → Meaning (Unit {0})
@@ -312,7 +319,6 @@ bounds_fit {i} {k} {x} {p} h y acts end wanted left' c f v upper s b since wide 
     let known = with_list_stands w code (filled_point (template_with x upper) q) φ x.evaluated.others z
     (filled_stands w code q (template_with x upper) (among.stands, among.image)) newest in
     let new = adjusted_stands w code answered place.variable place.layer place.others known fit.is in
-    let serials = h.serials in
     let some = o.since in
     let later = size.1 in
     let r = bounds_placed i' q fill φ x.evaluated.others place o.numbers (places_of x) y.wanted y.index
@@ -331,14 +337,13 @@ bounds_fit {i} {k} {x} {p} h y acts end wanted left' c f v upper s b since wide 
     (subst (λ flow. Comes code c f v (unpaid_aims (Some p) i' acts end wanted left') flow)
     (sym (adjusted_means w answered place.variable place.layer place.others w.acts fit.is))
     (record {
-      to = record {
+      to = λ early. record {
         first = first;
         begun = made_begun i' φ x.evaluated.others z (template_with x upper) (made_below place.layer place.variable) b
             among fit.may newest new.0;
         bound = made_bound _ answered.state.activations
             ∙ ap unbound (among.later.activations ∙ ap (λ (m : Block). m.first.state.activations) h.evaluated.block);
         image = new.1;
-        few = few_made w q (acted 0 first) among.few (omega (arith, serials)) (omega arith);
         numbers = o.numbers;
         others = among.others;
         words = among.words;
@@ -408,13 +413,13 @@ from_first :
     Comes i.call.code c f v (unpaid_aims like (from_point i a) acts end wanted left') flow →
     Comes i.call.code c f v (unpaid_aims like i acts end wanted left') flow
 from_first {like} {i} {acts} {end} {wanted} {left'} {flow = flow} a o =
-    comes_map (unpaid_aims like (from_point i a) acts end wanted left') (unpaid_aims like i acts end wanted left') flow
+    comes_map (unpaid_aims like (from_point i a) acts end wanted left') (unpaid_aims like i acts end wanted left')
+    refl flow
     (λ c f v r s (g : GoesUnpaid like (from_point i a) acts end wanted c f v s). record {
       first = g.first;
       begun = again g.begun;
       bound = g.bound;
       image = g.image;
-      few = g.few;
       numbers = g.numbers;
       others = g.others;
       words = g.words;
@@ -466,7 +471,8 @@ array_made i k x p numbers c wanted index left' f known h l paid there =
     behind (evaluated_from e p) numbers 0 (0 + size_of (number_kept e.signature))
     (index + size_of (act_code e.line) + size_of (number_kept e.signature)) (bounded_code k e.extent) in
     let aims = unpaid_aims (Some p) i acts end wanted left' in
-    comes_known (extent_aims k.block k.labels y e.extent.lower) aims w.acts (variable_with x) flow
+    comes_known (extent_aims k.block k.labels y e.extent.lower) aims
+    (ap (λ (m : Block). limits_of m.call.surroundings) (sym h.evaluated.block)) w.acts (variable_with x) flow
     (λ values s is o.
     let z = o.0 in
     let q = o.4 in
@@ -558,7 +564,7 @@ given_back A acts (Jump height label s) o = record { to = o.to }
 given_back A acts (Return r s) o = record { to = o.to }
 given_back A acts (F.Ended s) o = record { to = o.to }
 given_back A acts (Paused s) o = record { to = o.to }
-given_back A acts Stuck o = absurd o.to
+given_back A acts Stuck o = record { to = o.to }
 
 -- what is aimed at may be reached later, and since fewer acts
 unpaid_closed :
@@ -571,7 +577,6 @@ unpaid_closed like k acts index wanted left' =
         begun = o.begun;
         bound = o.bound;
         image = o.image;
-        few = o.few;
         numbers = o.numbers;
         others = o.others;
         words = o.words;
@@ -588,7 +593,7 @@ unpaid_since :
     acts ≤ more → Comes k.call.code c f v (unpaid_aims like k more index wanted left') flow →
     Comes k.call.code c f v (unpaid_aims like k acts index wanted left') flow
 unpaid_since {like} {k} {acts} {more} {index} {wanted} {left'} {flow = flow} since o =
-    comes_map (unpaid_aims like k more index wanted left') (unpaid_aims like k acts index wanted left') flow
+    comes_map (unpaid_aims like k more index wanted left') (unpaid_aims like k acts index wanted left') refl flow
     (λ c f v r s (g : GoesUnpaid like k more index wanted c f v s).
     let on = g.since in
     record {
@@ -596,7 +601,6 @@ unpaid_since {like} {k} {acts} {more} {index} {wanted} {left'} {flow = flow} sin
       begun = g.begun;
       bound = g.bound;
       image = g.image;
-      few = g.few;
       numbers = g.numbers;
       others = g.others;
       words = g.words;

@@ -40,6 +40,8 @@ use Rattle.begin_runs.proofs.Begins.{goal_of, here_of, leaves_by_jump, out_of_al
 use Rattle.begin_runs.proofs.Begins.{whole_size}
 use Rattle.begin_runs.proofs.Meaning.{begin_means, behind_act, comes_passed, list_of, within, within_closed}
 use Rattle.extent_runs.specs.Making.{IsPaid, Makes, made_in, site_in}
+use Rattle.block_runs.proofs.Early.{comes_early}
+use Rattle.activation_relation.specs.Points.{AreFew}
 
 -- each of its statements does what it means, from a point from which they go on
 abbrev EachGoes : Here → (first : Point) → Type 0
@@ -91,7 +93,7 @@ list_goes z h acts wanted c2 f first q numbers b o since size l goes paid there 
     let end = end_index k z.point z.numbers z.inner z.index in
     let owed = owing k.call.code (debt_of z) (goal_of z acts wanted) in
     let flow = M.list i.around z.inner.body k.call.surroundings.acts q.state in
-    comes_map (statement_aims i [] more end c2 z.left') (within owed) flow
+    comes_map (statement_aims i [] more end c2 z.left') (within owed) refl flow
     (λ c' f' v' r s g. begin_ends z h acts wanted c2 low size (back_of (list_code k z.inner) (ending_of z) l) c' f' v' s
     (record {
       first = first;
@@ -146,7 +148,7 @@ variables_go z h acts wanted c c2 f since size l each made' paid there =
     let n1 = size.1 in
     comes_on w.acts flow listed
     (comes_map (list_aims i low (list_index k z.point z.numbers x z.index) c2 z.left')
-    (before k.call.code (within owed) w.acts listed) flow
+    (before k.call.code (within owed) w.acts listed) refl flow
     (λ c' f' v' r s g.
     onward closed' g.goes.reach
     (λ f'' at.
@@ -190,17 +192,9 @@ begin_goes z h acts wanted f since l each made' paid there =
 
 -- ---- the statement
 
--- an act pays
-paid_by : {k : Block} {numbers : ℕ → ℕ} (p : Point) (line : ℕ) → IsAmong k numbers p → IsPaid k (acted line p)
-paid_by {k} p line o =
-    let w = k.call.surroundings in
-    few_made w p
-    (record (acted line p) { state = record (acted line p).state { serials = p.state.serials + w.serials } }) o.few
-    (omega arith) (omega arith)
-
 pub begin_does :
     (k : Block) (labels : List Label) (x : Inner) (index left' more : ℕ) → IsBegin k x index more →
-    ((p : Point) (numbers : ℕ → ℕ) → IsAmong k numbers p → k.first.state.world.acts < p.state.world.acts → IsPaid k p →
+    ((p : Point) (numbers : ℕ → ℕ) → IsAmong k numbers p → k.first.state.world.acts < p.state.world.acts → IsPaid p →
     Makes (site_in k labels p numbers x index) left' (made_in x)
     × AreMarked k.call.surroundings.links (environment_of k x) x.body (list_index k p numbers x index)) →
     ((p first : Point) (numbers : ℕ → ℕ) → IsAmong k numbers p → k.first.state.world.acts < p.state.world.acts →
@@ -217,6 +211,8 @@ begin_does k labels x index left' more h made' each p numbers c wanted f o paid 
     let n = whole_size z h in
     let goal = goal_of z p.state.world.acts wanted in
     let next' : Unit {0} → Meaning (Unit {0}) = λ u. behind_act k.around x.head x.body in
+    comes_early w refl there
+    (λ early.
     comes_owing (debt_of z) (M.statement k.around (begin_of x) w.acts p.state)
     (comes_on w.acts (act counted w.acts p.state) next'
     (act_comes (before_closed w.acts next' (owing_closed k.call.code (debt_of z) goal)) x.head.line (c + debt_of z) 0 f
@@ -227,14 +223,14 @@ begin_does k labels x index left' more h made' each p numbers c wanted f o paid 
     let later : k.first.state.world.acts < p'.state.world.acts = omega (arith, since) in
     begin_goes z (record { begin = h; among = o' }) p.state.world.acts wanted g (omega arith)
     (back_of one (whole_code z) l) (λ first. each p' first numbers o' later)
-    (made' p' numbers o' later (paid_by p x.head.line o))
-    (omega (arith, paid, n)) at)))
+    (made' p' numbers o' later (early less))
+    (omega (arith, paid, n)) at))))
 
 -- ---- what straight code makes
 
 pub straight_makes :
     (k : Block) (labels : List Label) (x : Inner) (index left' more : ℕ) (p : Point) (numbers : ℕ → ℕ) →
-    IsBegin k x index more → IsAmong k numbers p → IsPaid k p → AreMade k x index p numbers →
+    IsBegin k x index more → IsAmong k numbers p → IsPaid p → AreMade k x index p numbers →
     Makes (site_in k labels p numbers x index) left' (made_in x)
 straight_makes k labels x index left' more p numbers h o paid' made' c wanted f known l paid there =
     let w = k.call.surroundings in
@@ -246,15 +242,14 @@ straight_makes k labels x index left' more p numbers h o paid' made' c wanted f 
     let i = inner_block k labels p numbers x index in
     let is : IsHere z = record { begin = h; among = o } in
     let acts' : first.state.world.acts ≡ p.state.world.acts = same in
-    let few' : first.state.serials ≤ w.serials * first.state.world.acts =
-    subst (λ n. first.state.serials ≤ w.serials * n) (sym acts') (omega (arith, few, paid')) in
+    let few' : AreFew w first = omega (arith, few, paid') in
     let begun' = first_begun z is made' few' in
     let among' = first_among z is made' few' in
     subst (Comes k.call.code c f (services_of start)
     (list_aims i start.state.world.acts (variables_index k p numbers x index + size_of x.variables) wanted left'))
     (sym made'.means)
     (record {
-      to = record {
+      to = λ early. record {
         first = first;
         begun = begun';
         goes = record {

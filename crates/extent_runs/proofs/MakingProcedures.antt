@@ -14,7 +14,7 @@ use Rattle.pli_coding.specs.Assembly.{Code, Mark, ReturnPlace, size_of}
 use Rattle.pli_coding.specs.Environments.{none_taken}
 use Rattle.pli_coding.specs.Statements.{stmts_code}
 use Rattle.activation_relation.specs.Layers.{Point, services_of}
-use Rattle.activation_relation.specs.Points.{Stands, Surroundings}
+use Rattle.activation_relation.specs.Points.{Stands, Surroundings, IsEarly}
 use Rattle.activation_relation.proofs.Remaining.{remains_acted, remains_then}
 use Rattle.activation_relation.proofs.Serials.{few_acted}
 use Rattle.run_steps.specs.Engine.{Base}
@@ -42,6 +42,7 @@ use Rattle.program_runs.proofs.Statements.{at_end, resumes_among}
 use Rattle.begin_runs.specs.BehindLists.{GoesBehind, from_point, list_aims}
 use Rattle.extent_runs.specs.Making.{Makes, Site, block_from, made_at, site_at}
 use Rattle.extent_runs.specs.Unpaid.{AreBound, GoesUnpaid, MakesUnpaid, unpaid_aims}
+use Rattle.block_runs.proofs.Early.{comes_early}
 
 -- ---- the call
 
@@ -109,7 +110,7 @@ body_goes w code c p first q numbers held f h b o each few there =
     let inside = l2.inside in
     let flow = M.list k.around x.body w.acts q.state in
     let acts = q.state.world.acts in
-    comes_map (statement_aims k [] acts c.calling.end left_over left_over) (body_aims k.call left_over) flow
+    comes_map (statement_aims k [] acts c.calling.end left_over left_over) (body_aims k.call left_over) refl flow
     (λ c' f' v' r s g. at_end b refl (omega arith) g)
     (λ c' f' v' height label s g. no_jump refl g)
     (λ c' f' v' r s g. g.to)
@@ -117,15 +118,16 @@ body_goes w code c p first q numbers held f h b o each few there =
     (list_does k [] x.body (body_index c) left_over q held 0 left_over f b few each h.labels o l2
     (omega arith, omega (arith, inside)) there))
 
--- the act of its entry, which pays for the variables, and then these
+-- the act of its entry, and then its statements
 behind_entry :
     (k : Block) {first : Point} {numbers : ℕ → ℕ} (line : ℕ) → IsBegun (from_point k first) →
     IsImage k.call.surroundings k.call.code first →
-    first.state.serials ≤ k.call.surroundings.serials * (first.state.world.acts + 1) →
+    IsEarly k.call.surroundings first →
     ((n : ℕ) → k.registers ≤ n → numbers n ≡ k.call.numbers n) × ((n : ℕ) → numbers n < 2 ^ 32) →
     first.state.world.acts < k.call.surroundings.acts →
     IsAmong (from_point k first) numbers (acted line first)
-behind_entry k {first} line b image few registers less =
+behind_entry k {first} line b image early registers less =
+    let few = early less in
     let known = stands_acted line b.resumes.stands image less in
     record {
       stands = known.0;
@@ -138,7 +140,7 @@ behind_entry k {first} line b image few registers less =
         acts = omega arith;
         remains = remains_acted first counted line;
       };
-      few = few;
+      few = omega (arith, few);
       entries = refl;
       others = registers.0;
       words = registers.1;
@@ -147,7 +149,7 @@ behind_entry k {first} line b image few registers less =
 entry_goes :
     (w : Surroundings) (code : List Instr) (c : Callee) (p first : Point) (numbers held : ℕ → ℕ) (credits : ℕ)
     (f : Family) → IsCallee w code c → IsBegun (block_from w code c p numbers first) →
-    IsImage w code first × (first.state.serials ≤ w.serials * (first.state.world.acts + 1)) →
+    IsImage w code first →
     ((n : ℕ) → c.procedure.saved ≤ n → held n ≡ numbers n) × ((n : ℕ) → held n < 2 ^ 32) →
     EachDoes (block_from w code c p numbers first) (labels_of c) c.procedure.body (body_index c) left_over →
     w.acts < c.around.turns + (first.state.world.acts + 1) →
@@ -164,13 +166,15 @@ entry_goes w code c p first numbers held credits f h b known registers each few 
     let next' : Unit {0} → Meaning (Unit {0}) = λ u. M.list around' x.body in
     let closed = body_closed (called_at w code c p numbers) left_over in
     let l0 = back_of x.variables (behind_made c) (back_of (begin_of x) (parts_of c) h.stands) in
+    comes_early w refl there
+    (λ early.
     comes_on w.acts (act counted w.acts first.state) next'
-    (act_comes (before_closed w.acts next' closed) x.head.line credits 0 f (b.resumes.stands, known.0)
+    (act_comes (before_closed w.acts next' closed) x.head.line credits 0 f (b.resumes.stands, known)
     (h.coded.line, h.acts, paid) (front_of one rest l0) there
     (λ g less at.
     body_goes w code c p first (acted x.head.line first) numbers held g h b
-    (behind_entry (block_from w code c p numbers first) x.head.line b known.0 known.1 registers less) each
-    (omega (arith, few)) at))
+    (behind_entry (block_from w code c p numbers first) x.head.line b known early registers less) each
+    (omega (arith, few)) at)))
 
 -- ---- the whole
 
@@ -181,7 +185,7 @@ paid_makes z left' made makes c wanted f known l paid there =
     let k = z.block in
     let acts = z.start.state.world.acts in
     let end = z.index + size_of z.variables in
-    comes_map (list_aims k acts end wanted left') (unpaid_aims None k acts end wanted left')
+    comes_map (list_aims k acts end wanted left') (unpaid_aims None k acts end wanted left') refl
     (made k.call.surroundings.acts z.start.state)
     (λ c' f' v' r s (o : GoesBehind k acts end wanted c' f' v' s). paid_goes o)
     (λ c' f' v' height label s o. o)
@@ -207,7 +211,6 @@ paid_makes z left' made makes c wanted f known l paid there =
           };
           bound = tt;
           image = among.image;
-          few = few_acted k.call.surroundings q 0 among.few;
           numbers = o.goes.numbers;
           others = among.others;
           words = among.words;
@@ -260,14 +263,14 @@ unpaid_runs like w code c p numbers credits wanted f known h makes words each fe
     let flow = made_at c w.acts start.state in
     comes_on w.acts flow next'
     (comes_map (unpaid_aims like i low (act_index c) c1 left_over)
-    (before code (body_aims k left_over) w.acts next') flow
+    (before code (body_aims k left_over) w.acts next') refl flow
     (λ c' f' v' r s (o : GoesUnpaid like i low (act_index c) c1 c' f' v' s).
     let since = o.since in
     onward closed o.reach
     (λ g' at'.
     subst (λ s'. Comes code c1 g' (services_of o.first) (body_aims k left_over)
     (behind_variables around' x.body w.acts s')) (sym o.state)
-    (entry_goes w code c p o.first numbers o.numbers c1 g' h.0 o.begun (o.image, o.few) (o.others, o.words)
+    (entry_goes w code c p o.first numbers o.numbers c1 g' h.0 o.begun o.image (o.others, o.words)
     (each o.first o.begun o.bound)
     (omega (arith, few, since, same)) (omega (arith, n0, n1, n2, n3, paid)) at')))
     (λ c' f' v' height label s o. absurd o)

@@ -114,8 +114,8 @@ call_goes like k c labels acts level line index left' more h p numbers wanted f 
     (front_of given' call l) there)
     (λ g at.
     comes_map (behind_aims (called_at w k.call.code c p numbers) wanted)
-    (before k.call.code aims w.acts behind_call) flow
-    (λ c' f' v' r s q. record { to = behind_goes h o since q })
+    (before k.call.code aims w.acts behind_call) refl flow
+    (λ c' f' v' r s q. record { to = λ early. behind_goes h o since q })
     (λ c' f' v' height label s q. absurd q)
     (λ c' f' v' r s q. absurd q)
     (unpaid_runs like w k.call.code c p numbers (0 + size_of given') wanted g (o.stands, o.image)

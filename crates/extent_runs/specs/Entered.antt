@@ -7,7 +7,7 @@ use Rattle.pli_meaning.specs.Control.{Label}
 use Rattle.pli_meaning.specs.StorageState.{Activation, OnUnit}
 use Rattle.activation_relation.specs.Landing.{Changed, resumed, with_units}
 use Rattle.activation_relation.specs.Layers.{Point}
-use Rattle.activation_relation.specs.Points.{AreFew, Stands, Surroundings}
+use Rattle.activation_relation.specs.Points.{AreFew, Stands, Surroundings, IsEarly}
 use Rattle.activation_relation.specs.Remaining.{Remains}
 use Rattle.block_runs.specs.Machines.{IsImage, acted}
 use Rattle.program_runs.specs.Calls.{Callee, IsCallee, begun_at}
@@ -57,7 +57,7 @@ pub record BlocksEntered : Type 0 where
       × IsAmong (block_from w code c p numbers (entered_at w c p numbers)) numbers (entered_at w c p numbers)
   -- and one that has made variables before those
   pub behind :
-      (w : Surroundings) (code : List Instr) (c : Callee) (p q : Point) (numbers : ℕ → ℕ) → AreFew w p →
+      (w : Surroundings) (code : List Instr) (c : Callee) (p q : Point) (numbers : ℕ → ℕ) → IsEarly w p →
       IsMadeUpTo w code c p numbers q → ((n : ℕ) → numbers n < 2 ^ 32) → q.state.world.acts < w.acts →
       IsBegun (block_from w code c p numbers (acted c.procedure.head.line q))
       × IsAmong (block_from w code c p numbers (acted c.procedure.head.line q)) numbers

@@ -20,7 +20,7 @@ use Rattle.activation_relation.specs.Layers.{Point, services_of}
 use Rattle.run_steps.specs.Items.{Linked}
 use Rattle.run_steps.specs.Numbers.{IsWide}
 use Rattle.run_steps.specs.Reach.{Aims, Comes, Family, Reach, cost}
-use Rattle.block_runs.specs.Machines.{AreIn, IsIn}
+use Rattle.block_runs.specs.Machines.{AreIn, IsIn, limits_of}
 use Rattle.program_runs.specs.Statements.{Block, IsAmong, JumpsTo}
 use Rattle.expression_runs.specs.Laws as L
 use Rattle.expression_runs.specs.Values.{HasRegisters, Setting, Stretch, behind}
@@ -60,6 +60,7 @@ pub record HasBounds (k : Block) (x : Stretch) (lower upper : ℕ) (credits : �
 abbrev pub extent_aims : Block → List Label → Stretch → (lower : ℤ) → Aims (List ℤ)
 extent_aims k labels x lower =
     record {
+      limits = limits_of k.call.surroundings;
       done = λ c f v values s.
           (z : ℤ) × (values ≡ z ∷ []) × IsWide z × (int_le lower z ≡ true)
           × HasBounds k x (word lower) (word z) c f v s;

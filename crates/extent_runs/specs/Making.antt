@@ -7,7 +7,7 @@ use Rattle.pli_meaning.specs.Executing.{begun, block_run, block_variables_made, 
 use Rattle.pli_meaning.specs.Raising.{at_line}
 use Rattle.pli_coding.specs.Assembly.{Code, size_of}
 use Rattle.activation_relation.specs.Layers.{Point, services_of}
-use Rattle.activation_relation.specs.Points.{Stands, Surroundings}
+use Rattle.activation_relation.specs.Points.{Stands, Surroundings, early_serials}
 use Rattle.run_steps.specs.Engine.{Base}
 use Rattle.run_steps.specs.Items.{Linked}
 use Rattle.run_steps.specs.Reach.{Comes, Family, cost}
@@ -58,10 +58,9 @@ site_in k labels p numbers x index =
       index = variables_index k p numbers x index;
     }
 
--- the act of its statement pays for what it makes
-abbrev pub IsPaid : Block → Point → Type 0
-IsPaid k p =
-    p.state.serials + k.call.surroundings.serials ≤ k.call.surroundings.serials * p.state.world.acts
+-- what it makes comes behind an act of its statement
+abbrev pub IsPaid : Point → Type 0
+IsPaid p = p.state.serials ≤ early_serials
 
 abbrev pub made_in : Inner → Meaning (Unit {0})
 made_in x = block_variables_made (at_line x.around x.head.line) x.head x.head.kind
@@ -70,7 +69,7 @@ made_in x = block_variables_made (at_line x.around x.head.line) x.head x.head.ki
 abbrev pub MakingBeginsDo : Type 0
 MakingBeginsDo =
     (k : Block) (labels : List Label) (x : Inner) (index left' more : ℕ) → IsBegin k x index more →
-    ((p : Point) (numbers : ℕ → ℕ) → IsAmong k numbers p → k.first.state.world.acts < p.state.world.acts → IsPaid k p →
+    ((p : Point) (numbers : ℕ → ℕ) → IsAmong k numbers p → k.first.state.world.acts < p.state.world.acts → IsPaid p →
     Makes (site_in k labels p numbers x index) left' (made_in x)
     × AreMarked k.call.surroundings.links (environment_of k x) x.body (list_index k p numbers x index)) →
     ((p first : Point) (numbers : ℕ → ℕ) → IsAmong k numbers p → k.first.state.world.acts < p.state.world.acts →
@@ -82,7 +81,7 @@ MakingBeginsDo =
 abbrev pub StraightMakes : Type 0
 StraightMakes =
     (k : Block) (labels : List Label) (x : Inner) (index left' more : ℕ) (p : Point) (numbers : ℕ → ℕ) →
-    IsBegin k x index more → IsAmong k numbers p → IsPaid k p → AreMade k x index p numbers →
+    IsBegin k x index more → IsAmong k numbers p → IsPaid p → AreMade k x index p numbers →
     Makes (site_in k labels p numbers x index) left' (made_in x)
 
 -- ---- procedures

@@ -1,5 +1,5 @@
--- Variables of a procedure of which some are made behind an act of their own extents: the act of the procedure's entry,
--- which follows, pays for what came since.
+-- Variables of a procedure of which some are made behind an act of their own extents: where the act of the procedure's
+-- entry, which follows, is allowed, what came since is early.
 use Rattle.std.specs.Prelude.{ℕ, ◌+◌, ◌*◌, ◌^◌, ◌<◌, ◌≤◌, ◌≡◌, List, [], ◌∷◌, Option, None, Some, ⊤}
 use Rattle.rv_meaning.specs.declared.instr.Instr.{Instr}
 use Rattle.pli_meaning.specs.Control.{Meaning}
@@ -15,7 +15,7 @@ use Rattle.run_steps.specs.Items.{Linked}
 use Rattle.run_steps.specs.Reach.{Aims, Comes, Family, Reach, cost}
 use Rattle.block_runs.specs.Beginnings.{IsCalling}
 use Rattle.block_runs.specs.Bodies.{behind_aims}
-use Rattle.block_runs.specs.Machines.{AreIn, IsImage, IsIn}
+use Rattle.block_runs.specs.Machines.{AreIn, IsImage, IsIn, limits_of}
 use Rattle.program_runs.specs.Calls.{Callee, IsCallee, body_index, called_at, labels_of, left_over}
 use Rattle.program_runs.specs.Procedures.{HasRoom, beginning_for, block_of, procedure_code}
 use Rattle.program_runs.specs.Statements.{Block, EachDoes, IsBegun, JumpsOut, ReturnsTo}
@@ -36,8 +36,7 @@ AreBound (Some p) first = unbound first.state.activations ≡ unbound p.state.ac
 
 -- ---- the variables
 
--- a first point of the block, at an index, with as many credits as are wanted, and what it has of another point; one more
--- act pays for its serials
+-- a first point of the block, at an index, with as many credits as are wanted, and what it has of another point
 pub record GoesUnpaid (like : Option Point) (k : Block) (acts index wanted credits : ℕ) (f : Family) (v : Services)
     (s : State) : Type 0
   where
@@ -45,7 +44,6 @@ pub record GoesUnpaid (like : Option Point) (k : Block) (acts index wanted credi
     pub begun : IsBegun (from_point k first)
     pub bound : AreBound like first
     pub image : IsImage k.call.surroundings k.call.code first
-    pub few : first.state.serials ≤ k.call.surroundings.serials * (first.state.world.acts + 1)
     pub numbers : ℕ → ℕ
     pub others : (n : ℕ) → k.registers ≤ n → numbers n ≡ k.call.numbers n
     pub words : (n : ℕ) → numbers n < 2 ^ 32
@@ -59,6 +57,7 @@ pub record GoesUnpaid (like : Option Point) (k : Block) (acts index wanted credi
 abbrev pub unpaid_aims : (like : Option Point) → Block → (acts index wanted left' : ℕ) → Aims (Unit {0})
 unpaid_aims like k acts index wanted left' =
     record {
+      limits = limits_of k.call.surroundings;
       done = λ c f v r s. GoesUnpaid like k acts index wanted c f v s;
       jumped = λ c f v height label s.
           JumpsOut k.call.surroundings k.call.code k.outers acts c f v height label (closed s);

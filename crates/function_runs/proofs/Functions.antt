@@ -53,6 +53,7 @@ use Rattle.function_runs.specs.Functions.{IsFunction, function_at, function_bloc
 use Rattle.function_runs.specs.Functions.{function_entry, function_tail}
 use Rattle.function_runs.proofs.Beginnings.{first_among, first_begun, function_begins}
 use Rattle.function_runs.proofs.NoValues.{value_lacks}
+use Rattle.block_runs.proofs.Early.{comes_early}
 
 -- ---- what its block means
 
@@ -184,7 +185,7 @@ body_goes w code c p numbers f h b o each only few there =
     list_comes k.around x.body w.acts k.first.state (λ height label s q. absurd q)
     (comes_on w.acts flow next'
     (comes_map (statement_aims k [] acts (body_index c + size_of body) left_over left_over)
-    (before code aims w.acts next') flow
+    (before code aims w.acts next') refl flow
     (λ c' f' v' r s q.
     subst (λ u. Comes code c' f' v' aims (error k.around no_value_code w.acts u)) (sym q.state)
     (onward (body_closed k.call left_over) q.reach
@@ -244,7 +245,9 @@ function_runs w code c p numbers credits wanted f known serials h calls made' wo
     let c0 = credits + (left_over + size_of (function_end x)) + 2 + size_of (begin_of x) in
     subst (λ flow. Comes code credits f (services_of p) (behind_aims k wanted) flow)
     (sym (block_means c.around c w.acts p.state h.0.kind h.1.shallow))
-    (calls_return k (body_of c.around x.head x.body) credits left_over wanted f is
+    (comes_early w refl there
+    (λ early.
+    calls_return k (body_of c.around x.head x.body) credits left_over wanted f is
     (λ g at.
     subst (λ flow. Comes code c0 g (services_of start) (body_aims k left_over)
     (flow_on w.acts flow (λ u. behind_variables around' x.body))) (sym made'.means)
@@ -256,6 +259,6 @@ function_runs w code c p numbers credits wanted f known serials h calls made' wo
     (λ g'' less at''.
     let same = ap (λ (u : World). u.acts) made'.world in
     let o = first_among w code c p numbers stands' words less
-    (few_made w p (function_block w code c p numbers).first serials made'.few (omega (arith, same))) in
+    (few_made w p (function_block w code c p numbers).first early made'.few (omega (arith, same, less))) in
     let b = first_begun w code c p numbers made' new.0 o.stands in
-    body_goes w code c p numbers g'' h.0 b o (each b) only (omega (arith, few, same)) at''))))) there gives)
+    body_goes w code c p numbers g'' h.0 b o (each b) only (omega (arith, few, same)) at''))))) there gives))

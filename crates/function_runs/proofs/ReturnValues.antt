@@ -297,13 +297,13 @@ return_with words k labels source line index left' need most h ev p numbers c wa
     let y = behind p' numbers 0 0 (index + size_of one) value' in
     comes_on w.acts (source' w.acts p'.state) returned_value
     (comes_on w.acts flow fit
-    (comes_map (number_aims k labels y) (before code (before code owed w.acts returned_value) w.acts fit) flow
+    (comes_map (number_aims k labels y) (before code (before code owed w.acts returned_value) w.acts fit) refl flow
     (λ c' f' v' z s q.
     subst (Comes code c' f' v' (before code owed w.acts returned_value))
     (sym (fit_is around' z w.acts s q.0))
     (record {
-      to = record {
-        to = λ i0 f0 v0 from. own_end h.kind
+      to = λ early. record {
+        to = λ early i0 f0 v0 from. own_end h.kind
             (at_result words k source line index left' need most h debt c' f' v' z s y q.0 q.1 (omega arith)
             (linked_at (index + size_of one + size_of value') (put' ++ jump) (omega (arith, n2)) ls) i0 f0 v0 from);
       };

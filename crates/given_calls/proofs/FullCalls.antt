@@ -168,7 +168,7 @@ around_among g {k} {u} {p = p} z wide h o l =
         low = subst (λ n. n ≤ w.parts.stack_start) (sym o.later.remains.low) s.low;
         shape = shapes_remain o.later.remains u.callee.number (plain (Fixed 31)) s.shape;
         number = s.number;
-        serial = few_small w p o.stands o.few h.small;
+        serial = few_small w p 1 o.few h.small;
       };
     }
 

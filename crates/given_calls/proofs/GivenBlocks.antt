@@ -16,7 +16,7 @@ use Rattle.pli_coding.specs.Entries.{arguments_copied}
 use Rattle.pli_coding.specs.Environments.{none_taken}
 use Rattle.pli_coding.specs.Statements.{stmts_code}
 use Rattle.activation_relation.specs.Layers.{Point, services_of}
-use Rattle.activation_relation.specs.Points.{Stands}
+use Rattle.activation_relation.specs.Points.{Stands, IsEarly}
 use Rattle.activation_relation.specs.Remaining.{Remains}
 use Rattle.activation_relation.proofs.Remaining.{remains_acted, remains_entered, remains_made, remains_then}
 use Rattle.activation_relation.proofs.Returning.{later_same}
@@ -54,6 +54,7 @@ use Rattle.argument_runs.proofs.CopyBlocks.{run_means}
 use Rattle.argument_runs.proofs.CopyPoints.{copied_means}
 use Rattle.argument_runs.proofs.ListCalls.{list_calls_return}
 use Rattle.given_calls.specs.Given.{AreBeside, IsGiven, body_index, given_block, given_code, procedure_tail}
+use Rattle.block_runs.proofs.Early.{comes_early}
 
 -- ---- where its variables have been made
 
@@ -70,9 +71,9 @@ pub record Entering (g : Option Function) (y : CopyCall) (made : Point → Point
 
 first_among :
     {g : Option Function} {y : CopyCall} {made : Point → Point} {tail : Code} (h : Entering g y made tail) →
-    (made (copied_point g y)).state.world.acts < y.surroundings.acts →
+    IsEarly y.surroundings y.point → (made (copied_point g y)).state.world.acts < y.surroundings.acts →
     IsAmong (given_block g y made) y.numbers (given_block g y made).first
-first_among {g} {y} {made} h less =
+first_among {g} {y} {made} h early less =
     let there = h.beside.stands (copied_known h.here) in
     let known = stands_acted y.callee.procedure.head.line there.0 there.1 less in
     let same = ap (λ (u : World). u.acts) h.beside.world in
@@ -80,7 +81,7 @@ first_among {g} {y} {made} h less =
       stands = known.0;
       image = known.1;
       later = later_same (given_block g y made).first;
-      few = few_made y.surroundings y.point (given_block g y made).first h.here.few h.beside.few (omega (arith, same));
+      few = few_made y.surroundings y.point (given_block g y made).first early h.beside.few (omega (arith, same, less));
       entries = refl;
       others = λ n more. refl;
       words = h.here.words;
@@ -209,7 +210,9 @@ given_runs {g} {y} {made} {tail} credits wanted f h body_comes paid there gives 
     let c0 = credits + (left_over + ends) + 2 + size_of (listing_of x) in
     subst (λ flow. Comes y.code credits f (services_of (given_point y)) (behind_aims k wanted) flow)
     (sym (run_means c.around x.head x.body (entry_of g y) w.acts y.point.state h.kind h.here.room.shallow))
-    (list_calls_return k (giving_of g y) (M.block_body around' x.head x.body (entry_of g y)) credits left_over
+    (comes_early w refl there
+    (λ early.
+    list_calls_return k (giving_of g y) (M.block_body around' x.head x.body (entry_of g y)) credits left_over
     wanted f (is_giving h.here)
     (λ g1 at.
     subst (λ flow. Comes y.code c0 g1 (services_of start) (body_aims k left_over) flow) (sym (body_means h))
@@ -225,8 +228,8 @@ given_runs {g} {y} {made} {tail} credits wanted f h body_comes paid there gives 
     (act_comes (before_closed w.acts next' closed) x.head.line (c0 + size_of copies + size_of x.variables) 0 g3 there'
     (h.here.coded.line, h.acts, omega (arith, n0, n1, n2, n3, n4, long, paid)) (front_of one (body ++ tail) l2) at3
     (λ g4 less at4.
-    let o = first_among h less in
-    body_comes (first_begun h o.stands) o g4 at4)))))) there gives)
+    let o = first_among h early less in
+    body_comes (first_begun h o.stands) o g4 at4)))))) there gives))
 
 -- ---- a procedure's statements, from behind the act of its entry
 
@@ -259,7 +262,7 @@ procedure_goes y made callee each few b o f there =
     let acts = k.first.state.world.acts in
     subst (λ u. Comes y.code 0 f (services_of k.first) (body_aims k.call left_over) u)
     (sym (end_nothing k.around x.body y.surroundings.acts k.first.state))
-    (comes_map (statement_aims k [] acts c.calling.end left_over left_over) (body_aims k.call left_over) flow
+    (comes_map (statement_aims k [] acts c.calling.end left_over left_over) (body_aims k.call left_over) refl flow
     (λ c' f' v' r s q. at_end b refl (omega arith) q)
     (λ c' f' v' height label s q. no_jump refl q)
     (λ c' f' v' r s q. q.to)

@@ -411,13 +411,13 @@ given_call_comes k u labels line index left' need most more h ev enters p number
     (comes_on w.acts (V.argument around' first w.acts p'.state) rest
     (comes_on w.acts (V.stored_value around' stored' w.acts p'.state) pass
     (comes_on w.acts flow fit
-    (comes_map (number_aims k labels y) (before code a4' w.acts fit) flow
+    (comes_map (number_aims k labels y) (before code a4' w.acts fit) refl flow
     (λ c' f' v' z s q.
     subst (Comes code c' f' v' a4') (sym (fit_is around' z w.acts s q.0))
     (record {
-      to = record {
-        to = record {
-          to =
+      to = λ early. record {
+        to = λ early. record {
+          to = λ early.
               given_goes labels left' acts wanted c' f' v' z s y h (enters acts wanted z q.0) (omega arith) q.0 q.1
               (back_of v (given' ++ last) l1) (omega (arith, at_call, size, n0, n1, n2)) (omega arith);
         };
@@ -452,9 +452,9 @@ given_call_does k u labels line index left' need most more h none ev made' each 
     let same = ap (λ (t : World). t.acts) made.world in
     comes_map (behind_aims (called_of None x) wanted)
     (before k.call.code (statement_aims k labels acts (index + size_in k (given_call u line)) wanted left') w.acts
-    behind_call)
+    behind_call) refl
     (M.block_run u.callee.around (block_of u.callee.procedure) (entry_of None x) w.acts p.state)
-    (λ c1 f1 v1 r t e. record { to = behind_goes z h o since e })
+    (λ c1 f1 v1 r t e. record { to = λ early. behind_goes z h o since e })
     (λ c1 f1 v1 height label t e. absurd e)
     (λ c1 f1 v1 r t e. absurd e)
     (given_runs credits wanted g (here_among z wide h none o made)

@@ -113,7 +113,7 @@ function_goes y made h each only few b o f there =
     list_comes k.around x.body w.acts k.first.state (λ height label s q. absurd q)
     (comes_on w.acts flow next'
     (comes_map (statement_aims k [] acts (body_index c + size_of body) left_over left_over)
-    (before code aims w.acts next') flow
+    (before code aims w.acts next') refl flow
     (λ c' f' v' r s q.
     subst (λ u. Comes code c' f' v' aims (error k.around no_value_code w.acts u)) (sym q.state)
     (onward (body_closed k.call left_over) q.reach
@@ -305,7 +305,7 @@ behind_goes {k} {u} {numbers = numbers} {p = p} {x = x} call z h o since line st
     let first = o.later.acts in
     let more = q.later.acts in
     record {
-      to = (
+      to = λ early. (
         q.result.1,
         record {
           point = forgotten φ φs q.point;
@@ -466,13 +466,13 @@ given_function_comes k u need more h ev enters p numbers taken credits index f o
     (comes_on w.acts (V.argument k.around first w.acts p.state) rest
     (comes_on w.acts (V.stored_value k.around stored' w.acts p.state) pass
     (comes_on w.acts flow fit
-    (comes_map (number_aims k.block k.labels y) (before code a4' w.acts fit) flow
+    (comes_map (number_aims k.block k.labels y) (before code a4' w.acts fit) refl flow
     (λ c' f' v' z s q.
     subst (Comes code c' f' v' a4') (sym (fit_is k.around z w.acts s q.0))
     (record {
-      to = record {
-        to = record {
-          to =
+      to = λ early. record {
+        to = λ early. record {
+          to = λ early.
               given_goes call c' f' v' z s x y h (enters call x z q.0) q.0 q.1
               (omega arith, refl, (λ n less. less), (λ n less. refl)) (back_of v (given' ++ last) l')
               (refl, omega (arith, size, n1, n2)) (omega (arith, paid, size, n1, n2));
@@ -507,7 +507,7 @@ given_function_does k u need more h none ev made' each =
     let most = h.most in
     let same = ap (λ (e : World). e.acts) made.0.world in
     comes_map (behind_aims (called_of (Some number_function) t) x.wanted)
-    (before k.block.call.code (number_aims k.block k.labels x) w.acts as_number)
+    (before k.block.call.code (number_aims k.block k.labels x) w.acts as_number) refl
     (M.block_run u.callee.around (block_of u.callee.procedure) (entry_of (Some number_function) t) w.acts p.state)
     (λ c1 f1 v1 r s e. behind_goes {x = x} call z h o since line stays at c1 f1 v1 r s e)
     (λ c1 f1 v1 height label s e. absurd e)

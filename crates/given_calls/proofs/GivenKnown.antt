@@ -184,7 +184,7 @@ given_parameter g k u more p numbers z x h none own =
       level = sym own.level;
       few = omega (arith, level, few);
       words = room.words;
-      small = (let less = few_small w p o.stands o.few d.small in omega (arith, less));
+      small = (let less = few_small w p 1 o.few d.small in omega (arith, less));
       number = room.number;
       numbered = shapes_remain h.begun.remains u.callee.number _ room.shape;
       low = subst (λ n. 2 ^ 22 ≤ n) (sym there) (omega (arith, high, low, above, fits, same, same'));

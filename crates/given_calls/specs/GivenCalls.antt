@@ -89,12 +89,12 @@ pub record PassesLimit (p : Point) (c : Copying) : Type 0 where
       ≡ false
 
 -- its static parent is the block's ancestor at the level, one around that of the procedure; there are turns enough for
--- the acts that are left, which pay for the copies' serial numbers
+-- the acts that are left, and the copies' serial numbers have 8 bytes
 pub record IsDeclared (k : Block) (u : GivenCall) (more : ℕ) : Type 0 where
   pub begun : IsBegun k
   pub space : HasSpace k.call.surroundings k.first u.callee u.layer u.others
   pub few : 1 ≤ k.call.surroundings.serials
-  pub small : k.call.surroundings.serials * k.call.surroundings.acts + 1 < 2 ^ 64
+  pub small : k.call.surroundings.serials + 1 < 2 ^ 40
   pub nested : IsNested k
   pub around_it : u.level ≤ k.environment.level
   pub inner : u.callee.procedure.head.level ≡ suc u.level

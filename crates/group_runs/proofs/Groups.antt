@@ -1,5 +1,5 @@
 -- A DO group: its act, and its list.
-use Rattle.std.proofs.Common.{ℕ, ◌+◌, List, ◌++◌, subst, arith}
+use Rattle.std.proofs.Common.{ℕ, ◌+◌, List, ◌++◌, subst, arith, refl}
 use Rattle.pli_typing.specs.TypedTree as Y
 use Rattle.pli_meaning.specs.Control.{Label, Meaning, act, ◌>>=◌, ◌>>◌}
 use Rattle.pli_meaning.specs.Executing as M
@@ -43,7 +43,7 @@ group_with words k labels body line index left' h each p numbers c wanted f o pa
     (h.act.line_fits, h.act.acts, omega (arith, paid, n0)) (front_of one all h.statement) there
     (λ g less at.
     let p' = acted line p in
-    comes_map (statement_aims k labels p'.state.world.acts (list_index line index + size_of all) wanted left') aims
+    comes_map (statement_aims k labels p'.state.world.acts (list_index line index + size_of all) wanted left') aims refl
     (M.list k.around body w.acts p'.state)
     (λ c' f' v' r s q.
     let since = q.since in

@@ -53,6 +53,7 @@ use Rattle.unit_runs.specs.InnerLists.{IsList, ListDoes}
 use Rattle.jump_runs.specs.Calls.{block_in}
 use Rattle.jump_runs.specs.Exits.{exit_aims, hand_aims}
 use Rattle.jump_runs.proofs.Exits.{calls_hand, exit_closed}
+use Rattle.block_runs.proofs.Early.{comes_early}
 
 -- ---- a procedure called at a point of a block, with the labels that a jump may name there
 
@@ -210,7 +211,7 @@ list_exits z h acts since does b o f there =
     let same = ap (λ (u : World). u.acts) h.made.world in
     let first = i.first.state.world.acts in
     let flow = M.list i.around z.callee.procedure.body w.acts i.first.state in
-    comes_map (list_aims i first z.callee.calling.end left_over left_over) (exit_aims i acts left_over) flow
+    comes_map (list_aims i first z.callee.calling.end left_over left_over) (exit_aims i acts left_over) refl flow
     (λ c' f' v' r s q. at_end {k = from_point i q.first} q.begun refl (omega arith) q.goes)
     (λ c' f' v' height label s q.
     outs_since w z.block.call.code i.outers acts first c' f' v' height label _ (omega (arith, since, same)) q)
@@ -260,7 +261,9 @@ procedure_hands z h acts credits wanted f list' paid there gives =
     let c0 = credits + (left_over + size_of (end_of x)) + 2 + size_of (begin_of x) in
     subst (λ flow. Comes code credits f (services_of p) (hand_aims i acts wanted) flow)
     (sym (block_means c.around x.head x.body c.calling.parent w.acts p.state h.callee.kind h.room.shallow))
-    (calls_hand i
+    (comes_early w refl there
+    (λ early.
+    calls_hand i
     (M.block_variables_made around' x.head x.head.kind >> behind_variables around' x.body) acts credits left_over
     wanted f is
     (λ g at.
@@ -275,8 +278,8 @@ procedure_hands z h acts credits wanted f list' paid there gives =
     (λ g'' less at''.
     let same = ap (λ (u : World). u.acts) h.made.world in
     let o = first_among z h stands' less
-    (few_made w p i.first h.among.few h.made.few (omega (arith, same))) in
-    list' (first_begun z h new.0 o.stands) o g'' at''))))) there gives)
+    (few_made w p i.first early h.made.few (omega (arith, same, less))) in
+    list' (first_begun z h new.0 o.stands) o g'' at''))))) there gives))
 
 -- ---- the statement
 
@@ -396,8 +399,8 @@ call_goes k labels c acts line index left' more h p numbers wanted f is since li
     (arguments_given y p numbers (index + size_of (act_code line)) 0 f is.among.stands is.among.image
     (omega arith, refl) (parent_frame h (newest_at is.begun is.among)) (front_of given' call l) there)
     (λ g at.
-    comes_map (hand_aims (own_block z) acts wanted) (before k.call.code aims w.acts behind_call) flow
-    (λ c' f' v' r s q. record { to = behind_goes h is.among since q })
+    comes_map (hand_aims (own_block z) acts wanted) (before k.call.code aims w.acts behind_call) refl flow
+    (λ c' f' v' r s q. record { to = λ early. behind_goes h is.among since q })
     (λ c' f' v' height label s q. record { to = q })
     (λ c' f' v' r s q. absurd q)
     (procedure_hands z is acts (0 + size_of given') wanted g list' (omega (arith, n, inside, proc))

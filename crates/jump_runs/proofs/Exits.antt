@@ -1,5 +1,5 @@
 -- A call hands a jump on.
-use Rattle.std.proofs.Common.{ℕ, ◌+◌, inl, inr, List, [], ◌∷◌, None, true}
+use Rattle.std.proofs.Common.{ℕ, ◌+◌, inl, inr, List, [], ◌∷◌, None, true, refl}
 use Rattle.pli_meaning.specs.Control.{Label, Meaning, left}
 use Rattle.pli_meaning.specs.StorageState.{State, newest_ended}
 use Rattle.pli_serving.specs.ServiceState.{Services}
@@ -116,7 +116,7 @@ calls_hand k part acts credits left' wanted f h body there gives =
     (onward (left_closed newest_ended (owing_closed x.code debt aims))
     (calls (credits + debt) x.call x.entry f q h.code there gives)
     (λ g at.
-    comes_map (exit_aims k acts left') (left_aims newest_ended owed) flow
+    comes_map (exit_aims k acts left') (left_aims newest_ended owed) refl flow
     (λ c g' v u s o. at_end_owing x left' wanted c g' v None s (ending_of x h) o)
     (λ c g' v height label s o i0 f0 v0 from.
     outs_repaid x.surroundings k.outers acts i0 height label (closed s) debt from o)

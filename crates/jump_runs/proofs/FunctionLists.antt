@@ -1,5 +1,5 @@
 -- A function's list comes to its end by RETURN, or jumps out, or runs into the raise of ERROR behind it.
-use Rattle.std.proofs.Common.{◌≡◌, ℕ, ◌≤◌, [], ◌++◌, Option, true, false, ap, sym, subst, arith}
+use Rattle.std.proofs.Common.{◌≡◌, ℕ, ◌≤◌, [], ◌++◌, Option, true, false, ap, sym, subst, arith, refl}
 use Rattle.std.specs.Prelude.{◌&&◌, ◌==◌}
 use Rattle.pli_language.specs.declared.condition.Condition.TheVariants as C
 use Rattle.pli_typing.specs.TypedTree as Y
@@ -51,7 +51,7 @@ exits_since :
     Comes k.call.code c f v (exit_aims k more left_over) flow →
     Comes k.call.code c f v (exit_aims k acts left_over) flow
 exits_since k acts more c f v flow few o =
-    comes_map (exit_aims k more left_over) (exit_aims k acts left_over) flow
+    comes_map (exit_aims k more left_over) (exit_aims k acts left_over) refl flow
     (λ c' f' v' r s q. q)
     (λ c' f' v' height label s q.
     outs_since k.call.surroundings k.call.code k.outers acts more c' f' v' height label (closed s) few q)
@@ -102,7 +102,7 @@ each_ends k body index z marks each ends f there =
     list_comes k.around body w.acts k.first.state (elsewhere k body acts 0 f (services_of k.first) z.begun z.among)
     (comes_on w.acts flow next'
     (comes_map (statement_aims k [] first (behind_list k body index) 0 left_over)
-    (before code aims w.acts next') flow
+    (before code aims w.acts next') refl flow
     (λ c' f' v' r s q.
     let since = q.since in
     subst (λ u. Comes code c' f' v' aims (error k.around no_value_code w.acts u)) (sym q.state)
@@ -136,6 +136,7 @@ all_ends k body index z marks all ends f there =
     list_comes k.around body w.acts k.first.state (elsewhere k body acts 0 f (services_of k.first) z.begun z.among)
     (comes_on w.acts flow next'
     (comes_map (past_aims k body index first (behind_list k body index) 0 left_over) (before code aims w.acts next')
+    refl
     flow
     (λ c' f' v' r s q.
     let o = q.goes in

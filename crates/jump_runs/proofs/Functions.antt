@@ -71,6 +71,7 @@ use Rattle.text_runs.proofs.Waiting.{call_waits}
 use Rattle.jump_runs.specs.Exits.{exit_aims, hand_aims}
 use Rattle.jump_runs.specs.Functions.{FunctionDoes, IsFunctionList, function_in}
 use Rattle.jump_runs.proofs.Exits.{calls_hand, exit_closed}
+use Rattle.block_runs.proofs.Early.{comes_early}
 
 -- ---- what its block means
 
@@ -375,7 +376,9 @@ function_hands z h credits wanted f does paid there gives =
     let c0 = credits + (left_over + size_of (function_end x)) + 2 + size_of (begin_of x) in
     subst (λ flow. Comes code credits f (services_of p) (hand_aims i acts wanted) flow)
     (sym (block_means c.around c w.acts p.state h.is.function.kind (room_among z h).shallow))
-    (calls_hand i (body_of c.around x.head x.body) acts credits left_over wanted f is
+    (comes_early w refl there
+    (λ early.
+    calls_hand i (body_of c.around x.head x.body) acts credits left_over wanted f is
     (λ g at.
     subst (λ flow. Comes code c0 g (services_of start) aims
     (flow_on w.acts flow (λ u. behind_variables around' x.body))) (sym h.made.means)
@@ -388,8 +391,8 @@ function_hands z h credits wanted f does paid there gives =
     (λ g'' less at''.
     let same = ap (λ (u : World). u.acts) h.made.world in
     let o = first_among z h stands' less
-    (few_made w p i.first h.among.few h.made.few (omega (arith, same))) in
-    does (is_list z h (first_begun z h new.0 o.stands) o) g'' at''))))) there gives)
+    (few_made w p i.first early h.made.few (omega (arith, same, less))) in
+    does (is_list z h (first_begun z h new.0 o.stands) o) g'' at''))))) there gives))
 
 -- ---- the code of the call
 
@@ -471,7 +474,7 @@ unfolding V.returned ◌>>=◌ give
 behind_goes entries k c more taken index credits {numbers} {p} h o part call at c' f v (Some (BasicNumber z)) s q =
     let w = k.block.call.surroundings in
     record {
-      to = (
+      to = λ early. (
         q.result.1,
         record {
           point = q.point;
@@ -563,7 +566,7 @@ jump_function_does entries k c more h made' does p numbers taken credits index f
     (arguments_given y p numbers index credits f o.stands o.image (h.words, refl)
     (parent_frame (over entries k) c more h' o) (front_of given' call' l') there)
     (λ g at.
-    comes_map (hand_aims (own_block z) acts (credits + size_of part)) (before code goal w.acts as_number) flow
+    comes_map (hand_aims (own_block z) acts (credits + size_of part)) (before code goal w.acts as_number) refl flow
     (λ c1 f1 v1 r s q.
     behind_goes entries k c more taken index credits h o part call (omega (arith, size, n)) c1 f1 v1 r s q)
     (λ c1 f1 v1 height label s q. record { to = q })

@@ -31,12 +31,12 @@ use Rattle.activation_relation.specs.ServiceLaws.{IsSystem}
 use Rattle.run_steps.specs.Items.{Linked}
 use Rattle.run_steps.proofs.Jumps.{back_of, first_of, front_of, rest_of}
 use Rattle.run_steps.proofs.Linking.{has_items, linked_length}
-use Rattle.run_steps.specs.Reach.{Comes, never}
+use Rattle.run_steps.specs.Reach.{Comes}
 use Rattle.block_runs.proofs.CallStatements.{given_code}
 use Rattle.program_runs.specs.Calls.{AreMade, Callee, IsCall, IsCallee, block_at, body_index, left_over}
 use Rattle.program_runs.specs.Procedures.{begin_of, end_of, procedure_code}
 use Rattle.program_runs.specs.Programs.{IsWhole, Whole, main_of}
-use Rattle.program_runs.specs.Starts.{first_family, image_parts, main_called, no_numbers, start_of}
+use Rattle.program_runs.specs.Starts.{first_family, image_parts, main_called, no_numbers, start_of, never_in}
 use Rattle.program_runs.specs.Starts.{start_point, surroundings_of}
 use Rattle.program_runs.specs.Statements.{Block, Does, EachDoes, IsAmong, IsBegun, as_outer}
 use Rattle.program_runs.specs.Variables as D
@@ -499,7 +499,7 @@ bolt_is input first acts few bytes =
 pub bolt_runs :
     Keeps run_keeper → (input first : List ℕ) (acts : ℕ) → acts + 1 < 2 ^ 64 → length first ≡ memory_size →
     Comes (linked_code bolt_code) 0 (first_family first (services_of (start_point (bolt_image input acts))))
-    (services_of (start_point (bolt_image input acts))) never
+    (services_of (start_point (bolt_image input acts))) (never_in (bolt_image input acts))
     (run bolt_program (suc acts) acts (first_state input))
 bolt_runs keeps input first acts few bytes =
     program_runs keeps (bolt_whole input acts) first (bolt_is input first acts few bytes)

@@ -39,11 +39,11 @@ use Rattle.activation_relation.specs.ServiceLaws.{IsSystem}
 use Rattle.run_steps.specs.Items.{Linked}
 use Rattle.run_steps.proofs.Jumps.{back_of, first_of, front_of, rest_of}
 use Rattle.run_steps.proofs.Linking.{linked_length}
-use Rattle.run_steps.specs.Reach.{Comes, never}
+use Rattle.run_steps.specs.Reach.{Comes}
 use Rattle.program_runs.specs.Calls.{AreMade, Callee, block_at, body_index, left_over}
 use Rattle.program_runs.specs.Procedures.{frame_for}
 use Rattle.program_runs.specs.Programs.{IsWhole, Whole, main_of}
-use Rattle.program_runs.specs.Starts.{first_family, image_parts, main_called, no_numbers, start_of}
+use Rattle.program_runs.specs.Starts.{first_family, image_parts, main_called, no_numbers, start_of, never_in}
 use Rattle.program_runs.specs.Starts.{start_point, surroundings_of}
 use Rattle.program_runs.specs.Statements.{Block, Does, EachDoes, IsAmong, IsBegun, as_outer, own_height}
 use Rattle.program_runs.specs.Variables as D
@@ -700,7 +700,7 @@ flee_is input first acts few bytes =
 pub flee_runs :
     Keeps run_keeper → (input first : List ℕ) (acts : ℕ) → acts + 1 < 2 ^ 64 → length first ≡ memory_size →
     Comes (linked_code flee_code) 0 (first_family first (services_of (start_point (flee_image input acts))))
-    (services_of (start_point (flee_image input acts))) never
+    (services_of (start_point (flee_image input acts))) (never_in (flee_image input acts))
     (run flee_program (suc acts) acts (first_state input))
 flee_runs keeps input first acts few bytes =
     program_runs keeps (flee_whole input acts) first (flee_is input first acts few bytes)

@@ -11,13 +11,14 @@ use Rattle.run_steps.specs.Reach.{Aims, Comes, Family}
 use Rattle.block_runs.specs.Beginnings.{IsCalling, beginning_code, begun_point}
 use Rattle.block_runs.specs.Bodies.{AtEnd, IsBehind, IsCall, place_in}
 use Rattle.block_runs.specs.Endings.{ending_code}
-use Rattle.block_runs.specs.Machines.{AreIn}
+use Rattle.block_runs.specs.Machines.{AreIn, limits_of}
 use Rattle.program_runs.specs.Statements.{Block, JumpsOut}
 
 -- its body comes to its end, or to a label of a block further out, once the block has ended
 abbrev pub exit_aims : Block → (acts left' : ℕ) → Aims (Unit {0})
 exit_aims k acts left' =
     record {
+      limits = limits_of k.call.surroundings;
       done = λ c f v r s. AtEnd k.call left' c f v None s;
       jumped = λ c f v height label s.
           JumpsOut k.call.surroundings k.call.code k.outers acts c f v height label (closed s);
@@ -28,6 +29,7 @@ exit_aims k acts left' =
 abbrev pub hand_aims : Block → (acts wanted : ℕ) → Aims (Option BasicValue)
 hand_aims k acts wanted =
     record {
+      limits = limits_of k.call.surroundings;
       done = λ c f v r s. IsBehind k.call wanted c f v r s;
       jumped = λ c f v height label s. JumpsOut k.call.surroundings k.call.code k.outers acts c f v height label s;
       returned = λ c f v r s. ⊥;

@@ -17,3 +17,5 @@ pub mod ListFunctions
 pub mod NamePassing
 pub mod VariablesPassed
 pub mod ListRows
+pub mod WordsBeside
+pub mod WordsKnown

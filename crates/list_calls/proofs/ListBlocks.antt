@@ -1,7 +1,6 @@
 -- A procedure or a function with a list of parameters comes behind its call, if its statements do what they mean.
 use Rattle.std.proofs.Common.{◌≡◌, ℕ, ◌+◌, ◌-◌, ◌*◌, ◌%◌, ◌^◌, ◌<◌, ◌≤◌, List, [], ◌∷◌, ◌++◌, length, Option, None}
 use Rattle.std.proofs.Common.{true, refl, sym, ap, ◌∙◌, subst, arith}
-use Rattle.std.proofs.Math.Nat.{mul-le-mul_left}
 use Rattle.std.specs.Prelude.{nat_lt}
 use Rattle.pli_typing.specs.TypedTree as Y
 use Rattle.pli_meaning.specs.Control.{Meaning, act, flow_on, ◌>>=◌, ◌>>◌}
@@ -23,13 +22,13 @@ use Rattle.activation_relation.specs.FrameLaws.{lowered, with_waits}
 use Rattle.activation_relation.specs.Frames.{lower_end}
 use Rattle.activation_relation.specs.Layers.{Layer, Point, services_of}
 use Rattle.activation_relation.specs.PointLaws.{IsNext}
-use Rattle.activation_relation.specs.Points.{AreFew, Stands, Surroundings}
+use Rattle.activation_relation.specs.Points.{AreFew, Stands, Surroundings, IsEarly}
 use Rattle.activation_relation.specs.Remaining.{Remains}
 use Rattle.activation_relation.specs.ServiceLaws.{IsEntering}
 use Rattle.activation_relation.proofs.FrameWords.{words_covered}
 use Rattle.activation_relation.proofs.Remaining.{remains_acted, remains_entered, remains_then}
 use Rattle.activation_relation.proofs.Returning.{later_same}
-use Rattle.activation_relation.proofs.Serials.{few_made}
+use Rattle.activation_relation.proofs.Serials.{few_made, few_small}
 use Rattle.run_steps.specs.Engine.{Base, most_code}
 use Rattle.run_steps.specs.Items.{Linked}
 use Rattle.run_steps.proofs.Jumps.{back_of, front_of}
@@ -63,6 +62,7 @@ use Rattle.list_calls.specs.Taking.{named_point, bound_waits, taking_code, varia
 use Rattle.list_calls.proofs.Binding.{AreGiven, Binds, IsWithin, bound_comes, bound_known}
 use Rattle.list_calls.proofs.Bound.{AreBound, all_bound, bound_means, bound_remains}
 use Rattle.list_calls.proofs.PartCode.{coded}
+use Rattle.block_runs.proofs.Early.{comes_early}
 
 -- ---- where it is called
 
@@ -85,7 +85,7 @@ pub record Here (g : Option Function) (y : ListCall) : Type 0 where
   pub many : length y.callee.parameters ≡ length y.passed
   pub given : AreGiven y.words (given_waits y) y.passed
   pub words : (n : ℕ) → y.numbers n < 2 ^ 32
-  pub small' : y.surroundings.serials * y.surroundings.acts + copies_in y.passed < 2 ^ 64
+  pub small' : y.surroundings.serials + copies_in y.passed < 2 ^ 40
   pub coded : IsCoded y.callee.procedure y.callee.calling
   pub parameters : HasParameters y.callee
 
@@ -228,13 +228,6 @@ layer_is (x ∷ xs) (PassesName serial signature ∷ ys) ψ = layer_is xs ys ψ
 
 -- ---- its parameters
 
-pub few_within :
-    (w : Surroundings) (p : Point) (n : ℕ) → Stands w p → AreFew w p → w.serials * w.acts + n < 2 ^ 64 →
-    p.state.serials + n < 2 ^ 64
-few_within w p n stands few fits =
-    let more = mul-le-mul_left w.serials stands.allowed in
-    omega (arith, few, more, fits)
-
 abbrev pub caller_of : ListCall → Layer
 caller_of y = with_waits (given_waits y) y.layer
 
@@ -265,7 +258,7 @@ binds {g} {y} h shallow =
       even = subst (λ ls. lower_end w.parts ls % 16 ≡ 0) h.newest h.even;
       low = h.low;
       numbered = h.numbered;
-      serial = few_within w y.point (copies_in y.passed) h.stands h.few h.small';
+      serial = few_small w y.point (copies_in y.passed) h.few h.small';
     }
 
 -- where they have been bound
@@ -373,9 +366,9 @@ is_giving {g} h = record { listing = listing h.here h.shallow; call = is_list_ca
 
 first_among :
     {g : Option Function} {y : ListCall} {tail : Code} {made : Point → Point} (h : Entering g y made tail) →
-    (made (bound_point g y)).state.world.acts < y.surroundings.acts →
+    IsEarly y.surroundings y.point → (made (bound_point g y)).state.world.acts < y.surroundings.acts →
     IsAmong (list_block g y made) y.numbers (list_block g y made).first
-first_among {g} {y} {made = made} h less =
+first_among {g} {y} {made = made} h early less =
     let there = h.beside.stands (all_known h.here h.shallow) in
     let known = stands_acted y.callee.procedure.head.line there.0 there.1 less in
     let same = ap (λ (u : World). u.acts) h.beside.world in
@@ -383,7 +376,7 @@ first_among {g} {y} {made = made} h less =
       stands = known.0;
       image = known.1;
       later = later_same (list_block g y made).first;
-      few = few_made y.surroundings y.point (list_block g y made).first h.here.few h.beside.few (omega (arith, same));
+      few = few_made y.surroundings y.point (list_block g y made).first early h.beside.few (omega (arith, same, less));
       entries = refl;
       others = λ n more. refl;
       words = h.here.words;
@@ -409,9 +402,9 @@ first_begun {g} {y} {made = made} h stands =
         more = omega (arith, same);
       };
       acts = omega (arith, same);
-      remains = remains_then (named_point y) (bound_point g y) first (remains_bound h.here h.shallow)
-          (remains_then (bound_point g y) then' first (m.remains (all_known h.here h.shallow).0)
-          (remains_acted then' counted y.callee.procedure.head.line));
+      remains = remains_then (named_point y) then' first
+          (m.remains (named_point y) (omega arith) (all_known h.here h.shallow).0 (remains_bound h.here h.shallow))
+          (remains_acted then' counted y.callee.procedure.head.line);
       outer = tt;
     }
 
@@ -487,7 +480,9 @@ list_runs {g} {y} {tail} {made} credits wanted f h body_comes paid there gives =
     let c0 = credits + (left_over + ends) + 2 + size_of (listing_of c) in
     subst (λ flow. Comes y.code credits f (services_of (given_point y)) (behind_aims k wanted) flow)
     (sym (run_means c.around x.head x.body (entry_of g y) w.acts y.point.state h.code.kind h.shallow))
-    (list_calls_return k (giving_of g y) (M.block_body around' x.head x.body (entry_of g y)) credits left_over
+    (comes_early w refl there
+    (λ early.
+    list_calls_return k (giving_of g y) (M.block_body around' x.head x.body (entry_of g y)) credits left_over
     wanted f (is_giving h)
     (λ g1 at.
     subst (λ flow. Comes y.code c0 g1 (services_of start) (body_aims k left_over) flow) (sym (body_means h))
@@ -502,5 +497,5 @@ list_runs {g} {y} {tail} {made} credits wanted f h body_comes paid there gives =
     (h.here.coded.line, h.code.acts, omega (arith, n0, n1, n2, n3, n4, long, ends', paid))
     (front_of one (body ++ tail) l2) at3
     (λ g4 less at4.
-    let o = first_among h less in
-    body_comes (first_begun h o.stands) o g4 at4)))))) there gives)
+    let o = first_among h early less in
+    body_comes (first_begun h o.stands) o g4 at4)))))) there gives))

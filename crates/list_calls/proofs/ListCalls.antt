@@ -122,7 +122,7 @@ here_among g {k} {u} {p = p} ys h coded parameters o come =
       many = sym h.many ∙ sym n;
       given = list_given u.words u.ways ys u.layer.waits come;
       words = o.words;
-      small' = subst (λ j. w.serials * w.acts + j < 2 ^ 64) (sym m) small;
+      small' = subst (λ j. w.serials + j < 2 ^ 40) (sym m) small;
       coded = coded;
       parameters = parameters;
     }
@@ -483,7 +483,7 @@ listed_call_comes k u labels line index left' need most more h each enters p num
     let flow = V.arguments around' (arguments_of u.ways) w.acts p'.state in
     comes_on w.acts (V.called around' tree w.acts p'.state) behind_call
     (comes_on w.acts flow enter
-    (comes_map (list_aims k' u.layer u.others u.words u.layer.waits u.ways y) (before code a1' w.acts enter) flow
+    (comes_map (list_aims k' u.layer u.others u.words u.layer.waits u.ways y) (before code a1' w.acts enter) refl flow
     (λ c' f' v' es s q.
     given_goes labels left' acts wanted c' f' v' es s y h (λ ys come. enters acts wanted ys come) (omega arith) q l2
     (omega (arith, at_call, size, n0, n1, n2)) (omega arith))
@@ -534,7 +534,7 @@ procedure_goes y made callee each few b o f there =
     let acts = k.first.state.world.acts in
     subst (λ u. Comes y.code 0 f (services_of k.first) (body_aims k.call left_over) u)
     (sym (end_nothing k.around x.body y.surroundings.acts k.first.state))
-    (comes_map (statement_aims k [] acts c.calling.end left_over left_over) (body_aims k.call left_over) flow
+    (comes_map (statement_aims k [] acts c.calling.end left_over left_over) (body_aims k.call left_over) refl flow
     (λ c' f' v' r s q. at_end b refl (omega (arith, saved)) q)
     (λ c' f' v' height label s q. no_jump refl q)
     (λ c' f' v' r s q.
@@ -609,9 +609,9 @@ listed_call_does k u labels line index left' need most more h none give' made' e
     let same = ap (λ (t : World). t.acts) made.world in
     comes_map (behind_aims (called_of None x) wanted)
     (before k.call.code (statement_aims k labels acts (index + size_with u.words k (listed_call u line)) wanted left')
-    w.acts behind_call)
+    w.acts behind_call) refl
     (M.block_run u.callee.around (block_of u.callee.procedure) (entry_of None x) w.acts p.state)
-    (λ c1 f1 v1 r t e. record { to = behind_goes ys h o since e })
+    (λ c1 f1 v1 r t e. record { to = λ early. behind_goes ys h o since e })
     (λ c1 f1 v1 height label t e. absurd e)
     (λ c1 f1 v1 r t e. absurd e)
     (list_runs credits wanted g (entering_among ys h none o come made)

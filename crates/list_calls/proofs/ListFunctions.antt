@@ -107,7 +107,7 @@ function_goes y made h each only few b o f there =
     list_comes k.around x.body w.acts k.first.state (λ height label s q. absurd q)
     (comes_on w.acts flow next'
     (comes_map (statement_aims k [] acts (body_index c + size_of body) left_over left_over)
-    (before code aims w.acts next') flow
+    (before code aims w.acts next') refl flow
     (λ c' f' v' r s q.
     subst (λ u. Comes code c' f' v' aims (error k.around no_value_code w.acts u)) (sym q.state)
     (onward (body_closed k.call left_over) q.reach
@@ -285,7 +285,7 @@ behind_goes {k} {u} {numbers = numbers} {p = p} {x = x} call ys h o since line s
     let more = q.later.acts in
     let line' = ap (λ (ψ : Layer). ψ.line) (layer_is u.callee.parameters ys (listed_layer y)) in
     record {
-      to = (
+      to = λ early. (
         q.result.1,
         record {
           point = untold u q.point;
@@ -415,7 +415,7 @@ listed_function_comes k u need more h each enters p numbers taken credits index 
     let flow = V.arguments k.around (arguments_of u.ways) w.acts p.state in
     comes_on w.acts (V.called k.around tree w.acts p.state) as_number
     (comes_on w.acts flow enter
-    (comes_map (list_aims k u.layer u.others u.words u.layer.waits u.ways y) (before code a1' w.acts enter) flow
+    (comes_map (list_aims k u.layer u.others u.words u.layer.waits u.ways y) (before code a1' w.acts enter) refl flow
     (λ c' f' v' es s q.
     given_goes call c' f' v' es s x y h (λ ys come. enters call x ys come) q
     (omega arith, refl, refl, (λ n less. refl)) (back_of v (given' ++ last) l')
@@ -458,7 +458,7 @@ listed_function_does k u need more h none give' made' each =
     let most = h.most in
     let same = ap (λ (e : World). e.acts) made.0.world in
     comes_map (behind_aims (called_of (Some number_function) t) x.wanted)
-    (before k.block.call.code (number_aims k.block k.labels x) w.acts as_number)
+    (before k.block.call.code (number_aims k.block k.labels x) w.acts as_number) refl
     (M.block_run u.callee.around (block_of u.callee.procedure) (entry_of (Some number_function) t) w.acts p.state)
     (λ c1 f1 v1 r s e. behind_goes {x = x} call ys h o since line stays at c1 f1 v1 r s e)
     (λ c1 f1 v1 height label s e. absurd e)

@@ -37,7 +37,7 @@ use Rattle.run_steps.proofs.Numbers.{word_small}
 use Rattle.run_steps.specs.Reach.{Aims, Closed, Comes, Family, Reach, before, cost, reached}
 use Rattle.run_steps.proofs.Reach.{comes_on, onward, reach_map, reach_then, reached_holds, stay}
 use Rattle.run_steps.proofs.Reaching.{reach_moved}
-use Rattle.block_runs.specs.Machines.{AreEven, AreIn, IsImage, IsIn}
+use Rattle.block_runs.specs.Machines.{AreEven, AreIn, IsImage, IsIn, limits_of}
 use Rattle.block_runs.proofs.BlockEntries.{small_is}
 use Rattle.block_runs.proofs.CallStatements.{comes_map}
 use Rattle.block_runs.proofs.Places.{bounds, even_frame}
@@ -200,6 +200,7 @@ abbrev pub list_aims :
     Setting → Layer → List Layer → (words : ℕ) → Told → List Way → Stretch → Aims (List V.Evaluated)
 list_aims k φ φs words told us x =
     record {
+      limits = limits_of k.block.call.surroundings;
       done = λ c f v es s. HasPassed k φ φs words told us x es c f v s;
       jumped = λ c f v height label s. JumpsTo k.block k.labels x.acts c f v height label s;
       returned = λ c f v r s. ⊥;
@@ -410,10 +411,10 @@ value_goes k φ φs words all place count n told source us p numbers taken credi
     (comes_map
     (list_aims k φ φs words told' us
     (behind p1 q.numbers taken (credits + size_of v + size_of keep) (index + size_of v + size_of keep) rest))
-    (before code goal w.acts more) (V.arguments k.around (arguments_of us) w.acts p1.state)
+    (before code goal w.acts more) refl (V.arguments k.around (arguments_of us) w.acts p1.state)
     (λ c1 f1 v1 es s1 o1.
     record {
-      to = one_more (ByValue source) (PassesCopy z) x
+      to = λ early. one_more (ByValue source) (PassesCopy z) x
           (behind p1 q.numbers taken (credits + size_of v + size_of keep) (index + size_of v + size_of keep) rest)
           (wide, tt)
           (omega (arith, since), q.line, refl, omega (arith, size, n1, n2), omega (arith, size, n1, n2)) q.stays o1;
@@ -465,11 +466,11 @@ name_goes k φ φs words all place count n told x serial signature us p numbers 
     there)
     (λ g at.
     comes_on w.acts (V.arguments k.around (arguments_of us) w.acts p1.state) more
-    (comes_map (list_aims k φ φs words told' us z) (before code goal w.acts more)
+    (comes_map (list_aims k φ φs words told' us z) (before code goal w.acts more) refl
     (V.arguments k.around (arguments_of us) w.acts p1.state)
     (λ c1 f1 v1 es s1 o1.
     record {
-      to = one_more (ByName x serial signature) (PassesName serial signature) y z ((refl, refl), tt)
+      to = λ early. one_more (ByName x serial signature) (PassesName serial signature) y z ((refl, refl), tt)
           (omega arith, refl, refl, omega (arith, size), omega (arith, size)) (λ i less. refl) o1;
     })
     (λ c1 f1 v1 height label s1 o1. jumps_since (omega arith) o1)
@@ -485,7 +486,7 @@ unfolding V.arguments V.argument V.stored_value give ◌>>=◌
 arguments_come k need φ φs words all place count n told [] taken each h registers p numbers credits index f o line l
     paid there =
     record {
-      to = record {
+      to = λ early. record {
         passed = [];
         come = tt;
         are = refl;
@@ -541,12 +542,13 @@ arguments_come k need φ φs words all place count n told (ByValue source ∷ us
     comes_on w.acts (V.argument k.around first w.acts p.state) rest'
     (comes_on w.acts (V.stored_value k.around stored' w.acts p.state) pass
     (comes_on w.acts flow fit
-    (comes_map (number_aims k'.block k'.labels y) (before code a2' w.acts fit) flow
+    (comes_map (number_aims k'.block k'.labels y) (before code a2' w.acts fit) refl flow
     (λ c' f' v' z s q.
     subst (Comes code c' f' v' a2') (sym (fit_is k.around z w.acts s q.0))
     (record {
-      to = record {
-        to = value_goes k φ φs words all place count n told source us p numbers taken credits index c' f' v' z s h
+      to = λ early. record {
+        to = λ early.
+            value_goes k φ φs words all place count n told source us p numbers taken credits index c' f' v' z s h
             (arguments_come k need φ φs words all place count (suc n) (value_told last (word z) told) us taken
             (each.1 z q.0) (around_next (PassesCopy z) h) registers) line l paid q.0 q.1;
       };

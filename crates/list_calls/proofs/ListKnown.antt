@@ -3,6 +3,7 @@ use Rattle.std.proofs.Common.{◌≡◌, ℕ, zero, suc, ◌<◌, ◌+◌, ◌*�
 use Rattle.std.proofs.Common.{true, refl, sym, ap, ◌∙◌, subst, arith}
 use Rattle.std.proofs.lemmas.Bool.{eq-eqb}
 use Rattle.std.specs.Prelude.{nat_lt, slice_get}
+use Rattle.pli_typing.specs.TypedTree as Y
 use Rattle.pli_meaning.specs.Control.{Normal}
 use Rattle.pli_meaning.specs.Executing as M
 use Rattle.pli_meaning.specs.Raising.{at_line}
@@ -15,16 +16,17 @@ use Rattle.activation_relation.specs.Landing.{resumed, with_units}
 use Rattle.activation_relation.specs.Layers.{Layer, Point, services_of}
 use Rattle.activation_relation.specs.Remaining.{Remains}
 use Rattle.activation_relation.proofs.FrameWords.{words_covered}
-use Rattle.activation_relation.proofs.Remaining.{remains_acted, remains_same, remains_then, shapes_remain}
+use Rattle.activation_relation.proofs.Remaining.{remains_same, shapes_remain}
 use Rattle.run_steps.proofs.Reach.{reach_with, stay}
 use Rattle.block_runs.specs.Bodies.{Function}
 use Rattle.block_runs.specs.Machines.{AreIn, IsIn}
 use Rattle.block_runs.proofs.Places.{bounds}
 use Rattle.program_runs.specs.Statements.{Block, IsAmong, IsBegun}
 use Rattle.expression_runs.specs.Variables.{IsNumber, Spot}
+use Rattle.variable_runs.specs.Known.{IsKnown}
 use Rattle.argument_runs.specs.Parameters.{IsParameter, parameter_binding}
 use Rattle.nested_calls.specs.Nested.{IsNested}
-use Rattle.nested_calls.proofs.NestedVariables.{Over, ancestor_itself, over_nested, over_number}
+use Rattle.nested_calls.proofs.NestedVariables.{Over, ancestor_itself, over_known, over_nested, over_number}
 use Rattle.argument_runs.specs.ListCalls.{entered_point}
 use Rattle.list_calls.specs.Arguments.{ByName, ByValue, ComeTo, Way}
 use Rattle.list_calls.specs.ListCalls.{Listed, PassesNone, called_with}
@@ -33,9 +35,10 @@ use Rattle.list_calls.specs.Lists.{Parameter, Passing, PassesCopy, PassesName, b
 use Rattle.list_calls.specs.Taking.{AreBeside, ListCall, act_index, bound_point, bound_waits, called_of, given_point, giving_of}
 use Rattle.list_calls.specs.Taking.{list_block, list_of, listed_layer}
 use Rattle.list_calls.proofs.Bound.{all_bound}
-use Rattle.list_calls.proofs.ListBlocks.{Here, activation_in, all_known, caller_of, few_within, given_known, layer_is, room_here}
+use Rattle.list_calls.proofs.ListBlocks.{Here, activation_in, all_known, caller_of, given_known, layer_is, room_here}
 use Rattle.list_calls.proofs.ListCalls.{here_among}
 use Rattle.list_calls.proofs.Standing.{AreKept, Lies, stands_for}
+use Rattle.activation_relation.proofs.Serials.{few_small}
 
 -- a place at which a list has something
 slice_inside : (n : ℕ) (xs : List Parameter) (x : Parameter) → slice_get xs n ≡ Some x → n < length xs
@@ -112,6 +115,15 @@ list_number g k u more p numbers ys x h less is =
     (list_over g k u more p numbers ys h) h.declared.nested h.declared.begun h.among h.declared.around_it less
     h.inner.program h.inner.parts is
 
+pub list_variable :
+    (g : Option Function) (k : Block) (u : Listed) (more : ℕ) (p : Point) (numbers : ℕ → ℕ) (ys : List Passing)
+    (x : Spot) (d : Y.DeclaredVariable) → Begins g k u more p numbers ys → x.level ≤ u.level → IsKnown k x d →
+    IsKnown (list_block g (called_with k u p numbers ys) u.made) x d
+list_variable g k u more p numbers ys x d h less is =
+    over_known {k = k} {inner = list_block g (called_with k u p numbers ys) u.made} {numbers = numbers} x d
+    (list_over g k u more p numbers ys h) h.declared.nested h.declared.begun h.among h.declared.around_it less
+    h.inner.program h.inner.parts is
+
 -- ---- its parameters
 
 -- what is stored where the block's first statement begins is stored at each of its points
@@ -184,7 +196,7 @@ lies_here {g} {y} h =
       many = h.many;
       given = h.given;
       numbered = h.numbered;
-      serial = few_within w y.point (copies_in y.passed) h.stands h.few h.small';
+      serial = few_small w y.point (copies_in y.passed) h.few h.small';
       low = omega (arith, room, low, above, first);
       high = omega (arith, end, last);
     }
@@ -208,10 +220,8 @@ list_parameter g k u more p numbers ys n x h none stored own =
     let kept = kept_entered g y ys refl (kept_among u.ways ys h.come o stored) in
     let s = stands_for y.words n own.parameter u.callee.parameters ys (listed_layer y) (caller_of y) u.others
     (entered_point (giving_of g y)) [] (lies_here here) h.parameters.apart kept own.there in
-    let to : Remains q inner.first = remains_then q (u.made q) inner.first (m.remains (all_known here shallow).0)
-    (remains_acted (u.made q) counted u.callee.procedure.head.line) in
-    let on = to.living s.serial s.stored.living s.stored.lives in
-    let at = to.at s.serial s.stored.old in
+    let on = m.living s.serial s.stored.living (all_known here shallow).0 s.stored.lives in
+    let at = m.at s.serial s.stored.old in
     let level = own.level in
     let level' = ap (λ (ψ : Layer). ψ.level) (layer_is u.callee.parameters ys (listed_layer y)) in
     let few = h.inner.few in
@@ -258,7 +268,7 @@ list_parameter g k u more p numbers ys n x h none stored own =
       words = omega (arith, inside, ends);
       small = s.stored.small;
       number = s.stored.number;
-      numbered = shapes_remain to s.signature _ s.stored.numbered;
+      numbered = m.table s.signature _ s.stored.numbered;
       low = subst (λ j. 2 ^ 22 ≤ j) (sym at) s.stored.low;
       inside = subst (λ j. j + 4 ≤ 15 * 2 ^ 20) (sym at) s.stored.inside;
     }
@@ -305,6 +315,9 @@ none_beside g y empty many each means =
       activations = h.activations;
       idle = h.waiting;
       world = h.world;
-      remains = λ stands. remains_same q;
+      remains = λ p below stands remains. remains;
+      living = λ n l stands e. (remains_same q).living n l e;
+      at = λ n old. refl;
+      table = λ n s e. e;
       few = omega (arith, serials, each);
     }

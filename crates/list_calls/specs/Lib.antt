@@ -6,3 +6,4 @@ pub mod ListFunctions
 pub mod ListKnown
 pub mod Passed
 pub mod ListRows
+pub mod WordsBeside

@@ -111,12 +111,12 @@ pub record PassesLimit (p : Point) (us : List Way) : Type 0 where
   pub limit : nat_le (automatic_in_use p.state.living + copies_take us) most_automatic ≡ false
 
 -- there are as many arguments as parameters; the static parent is the block's ancestor at the level, one around that of
--- the procedure; there are turns enough for the acts that are left, which pay for the copies' serial numbers
+-- the procedure; there are turns enough for the acts that are left, and the copies' serial numbers have 8 bytes
 pub record IsDeclared (k : Block) (u : Listed) (more : ℕ) : Type 0 where
   pub begun : IsBegun k
   pub many : length u.ways ≡ length u.callee.parameters
   pub space : HasSpace k.call.surroundings k.first u
-  pub small : k.call.surroundings.serials * k.call.surroundings.acts + copies_among u.ways < 2 ^ 64
+  pub small : k.call.surroundings.serials + copies_among u.ways < 2 ^ 40
   pub nested : IsNested k
   pub around_it : u.level ≤ k.environment.level
   pub inner : u.callee.procedure.head.level ≡ suc u.level

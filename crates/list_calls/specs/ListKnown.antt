@@ -1,6 +1,7 @@
 -- What the statements of a procedure or a function with a list of parameters know: its static ancestors, the variables of
 -- the blocks around it, and its parameters.
 use Rattle.std.specs.Prelude.{ℕ, ◌+◌, ◌*◌, ◌^◌, ◌<◌, ◌≤◌, ◌≡◌, List, [], ◌∷◌, Option, Some, ⊤, slice_get}
+use Rattle.pli_typing.specs.TypedTree as Y
 use Rattle.pli_meaning.specs.DeclaredShapes.{declared_variable}
 use Rattle.pli_meaning.specs.StorageState.{Living, living_of}
 use Rattle.pli_serving.specs.Templates.{shape_at}
@@ -11,6 +12,7 @@ use Rattle.block_runs.specs.Bodies.{Function}
 use Rattle.program_runs.specs.Procedures.{IsCoded}
 use Rattle.program_runs.specs.Statements.{Block, IsAmong, IsBegun}
 use Rattle.expression_runs.specs.Variables.{IsNumber, Spot}
+use Rattle.variable_runs.specs.Known.{IsKnown}
 use Rattle.argument_runs.specs.Parameters.{IsParameter, parameter_declared, parameter_of, parameter_shape}
 use Rattle.nested_calls.specs.Nested.{IsNested}
 use Rattle.list_calls.specs.Arguments.{ByName, ByValue, ComeTo, Way}
@@ -76,6 +78,11 @@ pub record ListsKnown : Type 0 where
       (g : Option Function) (k : Block) (u : Listed) (more : ℕ) (p : Point) (numbers : ℕ → ℕ) (ys : List Passing)
       (x : Spot) → Begins g k u more p numbers ys → x.level ≤ u.level → IsNumber k x →
       IsNumber (list_block g (called_with k u p numbers ys) u.made) x
+  -- of whatever type it is
+  pub known :
+      (g : Option Function) (k : Block) (u : Listed) (more : ℕ) (p : Point) (numbers : ℕ → ℕ) (ys : List Passing)
+      (x : Spot) (d : Y.DeclaredVariable) → Begins g k u more p numbers ys → x.level ≤ u.level → IsKnown k x d →
+      IsKnown (list_block g (called_with k u p numbers ys) u.made) x d
   -- and each of its parameters stands for what was passed
   pub own :
       (g : Option Function) (k : Block) (u : Listed) (more : ℕ) (p : Point) (numbers : ℕ → ℕ) (ys : List Passing)

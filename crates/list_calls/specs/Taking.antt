@@ -8,7 +8,7 @@ use Rattle.pli_typing.specs.TypedTree as Y
 use Rattle.pli_meaning.specs.Control.{Normal, finish}
 use Rattle.pli_meaning.specs.Executing.{begun, block_variables_made}
 use Rattle.pli_meaning.specs.Raising.{Around, Entry, at_line}
-use Rattle.pli_meaning.specs.StorageState.{Activation, OnUnit, State, binding_of}
+use Rattle.pli_meaning.specs.StorageState.{Activation, Living, OnUnit, State, binding_of, living_of}
 use Rattle.pli_meaning.specs.declared.outcome.End.TheVariants as E
 use Rattle.pli_meaning.specs.declared.outcome.Limit.TheVariants as L
 use Rattle.pli_coding.specs.Allocating.{act_code}
@@ -24,7 +24,8 @@ use Rattle.activation_relation.specs.FrameLaws.{listed, with_waits}
 use Rattle.activation_relation.specs.Landing.{Changed, resumed, with_units}
 use Rattle.activation_relation.specs.Layers.{Layer, Point, services_of}
 use Rattle.activation_relation.specs.Points.{Stands, Surroundings}
-use Rattle.activation_relation.specs.Remaining.{Remains}
+use Rattle.storage_relation.specs.Stored.{Extends}
+use Rattle.activation_relation.specs.Remaining.{LivesOn, Remains}
 use Rattle.run_steps.specs.Items.{Linked}
 use Rattle.run_steps.specs.Reach.{Family, Reach, cost}
 use Rattle.block_runs.specs.Beginnings.{Beginning}
@@ -238,8 +239,19 @@ pub record AreBeside (g : Option Function) (y : ListCall) (made : Point → Poin
       (made (bound_point g y)).state.activations ≡ with_units own activation ∷ y.point.state.activations
   pub idle : (made (bound_point g y)).control.waiting ≡ None
   pub world : (made (bound_point g y)).state.world ≡ y.point.state.world
-  -- what lived where they have been bound lives on, and an act pays for the serials, those of copies too
-  pub remains : Stands y.surroundings (bound_point g y) → Remains (bound_point g y) (made (bound_point g y))
+  -- what remained of a point below the block remains; what lived where they have been bound lives on where it stands,
+  -- and the table has what it had; an act pays for the serials, those of copies too
+  pub remains :
+      (p : Point) → length p.state.activations ≤ length y.point.state.activations →
+      Stands y.surroundings (bound_point g y) → Remains p (bound_point g y) → Remains p (made (bound_point g y))
+  pub living :
+      (n : ℕ) (l : Living) → Stands y.surroundings (bound_point g y) →
+      living_of (bound_point g y).state.living n ≡ Some l →
+      LivesOn l (living_of (made (bound_point g y)).state.living n)
+  pub at :
+      (n : ℕ) → n ≤ (bound_point g y).state.serials →
+      (made (bound_point g y)).places.at n ≡ (bound_point g y).places.at n
+  pub table : Extends (bound_point g y).places.signatures (made (bound_point g y)).places.signatures
   pub few : (made (bound_point g y)).state.serials ≤ y.point.state.serials + y.surroundings.serials
 
 -- or they pass the limit on what is AUTOMATIC: the run ends where the first of them that does would be made

@@ -6,6 +6,7 @@ ghost use Rattle.list_calls.specs.ListKnown.{ListsKnown};
 ghost use Rattle.list_calls.specs.ListRows.{ListRan};
 ghost use Rattle.list_calls.specs.Passed.{VariablesPassed};
 ghost use Rattle.list_calls.specs.Taking.{NoneBeside};
+ghost use Rattle.list_calls.specs.WordsBeside.{BesideKnown, WordsBeside};
 
 use run_keeper::laws::run_keeper_keeps;
 
@@ -34,6 +35,16 @@ pub fn variables_passed()
 /// One that declares nothing beside its parameters makes nothing behind them.
 pub fn none_beside()
     ensures { NoneBeside }
+{}
+
+/// One that declares variables of constant size behind its parameters makes them there.
+pub fn words_beside()
+    ensures { WordsBeside }
+{}
+
+/// Each of them is a variable of its block, whatever its type.
+pub fn beside_known()
+    ensures { BesideKnown }
 {}
 
 /// A worked row: a main procedure that passes its variable and a copy of its value to another in a loop, until their

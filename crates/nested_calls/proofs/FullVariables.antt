@@ -69,8 +69,8 @@ over_by :
     {R : Type 0} {code : List Instr} {c : ℕ} {f : Family} {v : Services} {aims : Aims R} {end : End} {s : State}
     (q : Bool) → Over code c f v end s →
     Comes code c f v aims (cond q (F.Ended (with_world (ending end s.world) s)) (F.Paused s))
-over_by true o = record { to = (o.ended, o.ended_is, o.ending_there) }
-over_by false o = record { to = (o.paused, o.paused_is, o.pausing) }
+over_by true o = record { to = λ early. (o.ended, o.ended_is, o.ending_there) }
+over_by false o = record { to = λ early. (o.paused, o.paused_is, o.pausing) }
 
 pub over_comes :
     {R : Type 0} {code : List Instr} {c : ℕ} {f : Family} {v : Services} {aims : Aims R} (end : End) (k : ℕ)

@@ -138,7 +138,7 @@ unfolding V.returned ◌>>=◌ give
 behind_goes k c taken index credits {numbers} {p} o part call at c' f v (Some (BasicNumber z)) s q =
     let w = k.block.call.surroundings in
     record {
-      to = (
+      to = λ early. (
         q.result.1,
         record {
           point = q.point;
@@ -221,7 +221,7 @@ nested_function_does k c level more h few made' each p numbers taken credits ind
     (front_of given' call' l') there)
     (λ g at.
     comes_map (behind_aims (function_at w code c' p numbers) (credits + size_of part))
-    (before code goal w.acts as_number) flow
+    (before code goal w.acts as_number) refl flow
     (λ c1 f1 v1 r s q. behind_goes k c taken index credits o part call (omega (arith, size, n)) c1 f1 v1 r s q)
     (λ c1 f1 v1 height label s q. absurd q)
     (λ c1 f1 v1 r s q. absurd q)

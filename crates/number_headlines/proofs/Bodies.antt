@@ -11,6 +11,7 @@ use Rattle.pli_meaning.specs.Control.{Label}
 use Rattle.pli_meaning.specs.DeclaredShapes.{variables_of_block}
 use Rattle.pli_meaning.specs.Executing.{labels_in}
 use Rattle.pli_meaning.specs.StorageState.{automatic_in_use, most_activations, most_automatic}
+use Rattle.pli_serving.specs.ServiceState.{Entry}
 use Rattle.pli_coding.specs.Allocating.{act_code}
 use Rattle.pli_coding.specs.Assembly.{size_of}
 use Rattle.pli_coding.specs.Images.{linked_code}
@@ -32,6 +33,7 @@ use Rattle.program_runs.specs.Starts.{image_parts}
 use Rattle.program_runs.specs.Statements.{DoesWith, EachDoes, IsOwn, set_aside}
 use Rattle.expression_runs.specs.Assignments.{setting_around}
 use Rattle.expression_runs.specs.Laws as L
+use Rattle.phase_runs.proofs.Signals.{signal_ends}
 use Rattle.nested_calls.specs.NestedCalls.{HasFrame, IsNestedCall}
 use Rattle.nested_calls.specs.NestedFunctions.{IsNestedFunction}
 use Rattle.nested_calls.proofs.DeepCalls.{deep_call_ends}
@@ -39,25 +41,27 @@ use Rattle.nested_calls.proofs.FullCalls.{full_call_ends, full_function_ends}
 use Rattle.nested_calls.proofs.NestedCalls.{call_coded, call_of, given_in, nested_call_does}
 use Rattle.nested_calls.proofs.NestedFunctions.{deep_function_ends, nested_function_does}
 use Rattle.number_runs.specs.Knowledge as Left
-use Rattle.number_runs.specs.Knowledge.{IsReady, IsUnraised, IsValued, KnowsCalls, KnowsPuts, KnowsRaises, call_number}
-use Rattle.number_runs.specs.Knowledge.{call_statement, most_set}
+use Rattle.number_runs.specs.Knowledge.{IsReady, IsUnraised, IsValued, KnowsAroundTexts, KnowsCalls, KnowsPuts}
+use Rattle.number_runs.specs.Knowledge.{KnowsRaises, call_number, call_statement, most_set, KnowsSignals}
 use Rattle.number_runs.specs.Statements.{statements_set}
 use Rattle.number_runs.specs.Variables.{bytes_of}
 use Rattle.number_runs.proofs.Homes.{none_raised}
 use Rattle.number_runs.proofs.Statements.{body_does}
 use Rattle.number_runs.proofs.Puts.{puts_known}
-use Rattle.number_runs.proofs.Takes.{registers_held}
+use Rattle.number_runs.proofs.BlocksTaken.{registers_held}
+use Rattle.number_runs.proofs.Unraised.{around_texts_end}
 use Rattle.number_headlines.specs.Programs.{scope_of}
 use Rattle.number_headlines.proofs.Deciding.{by_decision, entry_low}
 use Rattle.number_headlines.proofs.Entered.{are_made, callee_in, entered, entered_at, inner_set, site_in}
 use Rattle.number_headlines.proofs.Entered.{unraised_there}
 use Rattle.number_headlines.proofs.Full.{are_full}
-use Rattle.number_headlines.proofs.GivenBodies.{knows_given}
-use Rattle.number_headlines.proofs.Inner.{Inner, inner_is}
-use Rattle.number_headlines.proofs.Mains.{Main, few_acts, limit_by, most_for, result_of, run_for}
-use Rattle.number_headlines.proofs.Puts.{error_routine, lists_known}
+use Rattle.number_headlines.proofs.ListBodies.{knows_given}
+use Rattle.number_headlines.proofs.Inner.{Inner, inner_none}
+use Rattle.number_headlines.proofs.Mains.{Main, most_for, result_of, run_for}
+use Rattle.number_headlines.proofs.Puts.{constants_known, error_routine, lists_known}
+use Rattle.number_headlines.proofs.Based.{based_known}
 use Rattle.number_headlines.proofs.Running.{EachBody, EachGiven, IsEntered, IsRunning, Running, block_of_run, told_run}
-use Rattle.number_headlines.proofs.Running.{told_running}
+use Rattle.number_headlines.proofs.Running.{told_running, waited_running}
 use Rattle.number_headlines.proofs.Tables.{block_known}
 
 -- ---- at the end of a block
@@ -118,40 +122,81 @@ unraised_of once {program} m input acts valued more a blocks few h =
 raises_of :
     MarkedOnce → {program : Y.Program} (m : Main program) (input : List ℕ) (acts : ℕ) (valued : Bool) (more : ℕ)
     (a : Running) (blocks : ℕ) → acts + 1 < 2 ^ 64 → IsRunning m input acts valued more a blocks →
-    KnowsRaises (scope_of m.short program m.called a.head a.body) (block_of_run program input acts valued more a)
+    KnowsRaises (scope_of program m.called a.head a.body) (block_of_run program input acts valued more a)
     (labels_in a.body ++ []) (most_for program)
 raises_of once {program} m input acts valued more a blocks few h =
-    none_raised (scope_of m.short program m.called a.head a.body) (block_of_run program input acts valued more a)
+    none_raised (scope_of program m.called a.head a.body) (block_of_run program input acts valued more a)
     (labels_in a.body ++ []) (most_for program) (unraised_of once m input acts valued more a blocks few h)
+
+-- and so does SIGNAL
+signals_of :
+    MarkedOnce → {program : Y.Program} (m : Main program) (input : List ℕ) (acts : ℕ) (valued : Bool) (more : ℕ)
+    (a : Running) (blocks : ℕ) → acts + 1 < 2 ^ 64 → IsRunning m input acts valued more a blocks →
+    KnowsSignals (scope_of program m.called a.head a.body) (block_of_run program input acts valued more a)
+    (labels_in a.body ++ []) left_over
+signals_of once {program} m input acts valued more a blocks few h labels c line index includes may fits l =
+    let routines = raise_routines once program m.loadable in
+    let inside = routines.linked.inside in
+    let here = l.inside in
+    signal_ends (block_of_run program input acts valued more a) labels c line index left_over
+    (record {
+      act = record { line_fits = fits; acts = few };
+      statement = l;
+      paid = omega (arith, inside, here);
+      routines = routines;
+      place = error_routine once program m.loadable;
+    })
+    (h.unraised c) (h.unraised C.Error)
 
 -- numbers are written by the lists of the program
 puts_of :
     MarkedOnce → {program : Y.Program} (m : Main program) (input : List ℕ) (acts : ℕ) (valued : Bool) (more : ℕ)
     (a : Running) (blocks : ℕ) → acts + 1 < 2 ^ 64 → IsRunning m input acts valued more a blocks →
-    KnowsPuts (scope_of m.short program m.called a.head a.body) (block_of_run program input acts valued more a)
+    KnowsPuts (scope_of program m.called a.head a.body) (block_of_run program input acts valued more a)
     (most_for program)
 unfolding unraised_of
 puts_of once {program} m input acts valued more a blocks few h =
     let k = block_of_run program input acts valued more a in
-    puts_known (scope_of m.short program m.called a.head a.body) k (most_for program) h.begun
+    puts_known (scope_of program m.called a.head a.body) k (most_for program) h.begun
     (unraised_of once m input acts valued more a blocks few h) h.variables (λ may. h.arrays)
-    (λ may. h.narrows) h.parameters (lists_known program k m.memory h.told)
+    (λ may. h.narrows) h.parameters (λ may. constants_known program k m.memory h.told refl)
+    (lists_known program k m.memory h.told)
 
--- wherever limits wait in words of its frame, calls do what they mean
+-- wherever limits wait in words of its frame, and texts on their stack, calls do what they mean
 abbrev EachCall : {program : Y.Program} → Main program → (input : List ℕ) → (acts : ℕ) → (valued : Bool) →
     (more : ℕ) → Running → (blocks : ℕ) → Type 0
 EachCall {program} m input acts valued more a blocks =
-    (layers : List Layer → List Layer) →
-    IsRunning m input acts valued more (record a { layers = layers }) blocks →
-    KnowsCalls (scope_of m.short program m.called a.head a.body)
-    (block_of_run program input acts valued more (record a { layers = layers })) (labels_in a.body ++ [])
+    (layers : List Layer → List Layer) (texts : List Entry → List Entry) (own : List Label) →
+    IsRunning m input acts valued more (record a { layers = layers; texts = texts }) blocks →
+    KnowsCalls (scope_of program m.called a.head a.body)
+    (block_of_run program input acts valued more (record a { layers = layers; texts = texts })) own
     (most_for program) left_over
+
+-- so texts may wait there
+texts_of :
+    MarkedOnce → {program : Y.Program} (m : Main program) (input : List ℕ) (acts : ℕ) (valued : Bool) (more : ℕ)
+    (a : Running) (blocks : ℕ) → acts + 1 < 2 ^ 64 → (layers : List Layer → List Layer) →
+    IsRunning m input acts valued more (record a { layers = layers }) blocks →
+    EachCall m input acts valued more a blocks →
+    KnowsAroundTexts (scope_of program m.called a.head a.body)
+    (block_of_run program input acts valued more (record a { layers = layers })) (labels_in a.body ++ [])
+    (most_for program)
+unfolding unraised_of
+texts_of once {program} m input acts valued more a blocks few layers h calls =
+    let k = block_of_run program input acts valued more (record a { layers = layers }) in
+    around_texts_end (scope_of program m.called a.head a.body) k (labels_in a.body ++ []) (most_for program)
+    (unraised_of once m input acts valued more (record a { layers = layers }) blocks few h)
+    (constants_known program k m.memory h.told refl)
+    (λ words set line entries level n is.
+    (calls layers (λ es. entries ++ a.texts es) [] (waited_running h entries)).functions words set [] line level n
+    (λ label among. among) is)
 
 ready :
     MarkedOnce → {program : Y.Program} (m : Main program) (input : List ℕ) (acts : ℕ) (valued : Bool) (more : ℕ)
-    (a : Running) (blocks : ℕ) → acts + 1 < 2 ^ 64 → IsEntered m input acts valued more a blocks →
-    EachCall m input acts valued more a blocks → EachGiven m input acts valued more a →
-    IsReady (scope_of m.short program m.called a.head a.body) valued (block_of_run program input acts valued more a)
+    (a : Running) (blocks : ℕ) → acts + 1 < 2 ^ 64 → (e : IsEntered m input acts valued more a blocks) →
+    EachCall m input acts valued more a blocks →
+    EachGiven m input acts valued more a e.running.free.layer e.running.free.below →
+    IsReady (scope_of program m.called a.head a.body) valued (block_of_run program input acts valued more a)
     (labels_in a.body ++ []) (most_for program) left_over
 ready once {program} m input acts valued more a blocks few e calls given =
     let h = e.running in
@@ -170,9 +215,13 @@ ready once {program} m input acts valued more a blocks few e calls given =
       arrays = λ may. h.arrays;
       narrows = λ may. h.narrows;
       parameters = h.parameters;
-      calls = calls a.layers h;
-      given = given;
+      calls = calls a.layers a.texts (labels_in a.body ++ []) h;
+      based = λ may.
+          based_known m input acts valued more a blocks few e (unraised_of once m input acts valued more a blocks few h)
+          may;
       jumps = λ labels level label line index includes out. absurd (cc out);
+      texts = λ may. texts_of once m input acts valued more a blocks few a.layers h calls;
+      signals = signals_of once m input acts valued more a blocks few h;
       puts = λ may. puts_of once m input acts valued more a blocks few h;
       loops = λ may. record {
         layer = φ;
@@ -183,8 +232,15 @@ ready once {program} m input acts valued more a blocks few e calls given =
         free = λ n behind. ap (λ (ψ : Layer). ψ.waits n) (sym e.clear);
         raises = λ waits.
             raises_of once m input acts valued more (told_run a waits φ φs) blocks few (told_running h waits);
-        calls = λ waits. calls (λ ls. with_waits waits φ ∷ φs) (told_running h waits);
+        calls = λ waits.
+            calls (λ ls. with_waits waits φ ∷ φs) a.texts (labels_in a.body ++ []) (told_running h waits);
+        given = given;
         jumps = λ waits labels level label line index includes out. absurd (cc out);
+        texts = λ waits may.
+            texts_of once m input acts valued more a blocks few (λ ls. with_waits waits φ ∷ φs)
+            (told_running h waits) calls;
+        signals = λ waits.
+            signals_of once m input acts valued more (told_run a waits φ φs) blocks few (told_running h waits);
         puts = λ waits may.
             puts_of once m input acts valued more (told_run a waits φ φs) blocks few (told_running h waits);
       };
@@ -202,7 +258,8 @@ ready once {program} m input acts valued more a blocks few e calls given =
 frame_left :
     (once : MarkedOnce) {program : Y.Program} (m : Main program) (input : List ℕ) (acts : ℕ) (valued : Bool) (more : ℕ)
     (a : Running) (blocks : ℕ) (few : acts + 1 < 2 ^ 64) (e : IsEntered m input acts valued more a blocks)
-    (calls : EachCall m input acts valued more a blocks) (given : EachGiven m input acts valued more a) →
+    (calls : EachCall m input acts valued more a blocks)
+    (given : EachGiven m input acts valued more a e.running.free.layer e.running.free.below) →
     Left.HasFrame (ready once m input acts valued more a blocks few e calls given) 0 (statements_set a.body)
 unfolding ready
 frame_left once m input acts valued more a blocks few e calls given may =
@@ -211,12 +268,13 @@ frame_left once m input acts valued more a blocks few e calls given may =
 
 body_each :
     MarkedOnce → {program : Y.Program} (m : Main program) (input : List ℕ) (acts : ℕ) (valued : Bool) (more : ℕ)
-    (a : Running) (blocks : ℕ) → acts + 1 < 2 ^ 64 → IsEntered m input acts valued more a blocks →
-    EachCall m input acts valued more a blocks → EachGiven m input acts valued more a →
+    (a : Running) (blocks : ℕ) → acts + 1 < 2 ^ 64 → (e : IsEntered m input acts valued more a blocks) →
+    EachCall m input acts valued more a blocks →
+    EachGiven m input acts valued more a e.running.free.layer e.running.free.below →
     EachDoes (block_of_run program input acts valued more a) (labels_in a.body ++ []) a.body a.index left_over
 body_each once {program} m input acts valued more a blocks few e calls given =
     let h = e.running in
-    let s = scope_of m.short program m.called a.head a.body in
+    let s = scope_of program m.called a.head a.body in
     let known' = (block_known program.variables a.head.number m.known).known in
     body_does s valued (block_of_run program input acts valued more a) a.body a.index
     (most_for program) left_over (ready once m input acts valued more a blocks few e calls given) h.statements
@@ -229,7 +287,7 @@ body_each once {program} m input acts valued more a blocks few e calls given =
 frame_fits :
     {program : Y.Program} (m : Main program) (input : List ℕ) (acts : ℕ) (valued : Bool) (more b : ℕ) (a : Running) →
     IsRunning m input acts valued (suc more) a (suc b) → {v : Bool} {level number : ℕ}
-    (i : Inner m a.head false v level number) (call : ℕ) →
+    (i : Inner m a.head [] v level number) (call : ℕ) →
     HasFrame (block_of_run program input acts valued (suc more) a)
     (callee_in i more (block_of_run program input acts valued (suc more) a) call)
 frame_fits {program} m input acts valued more b a h {v} i call =
@@ -249,7 +307,7 @@ call_by :
     MarkedOnce → {program : Y.Program} (m : Main program) (input : List ℕ) (acts : ℕ) (valued : Bool) (more b : ℕ)
     (a : Running) → acts + 1 < 2 ^ 64 → IsRunning m input acts valued (suc more) a (suc b) →
     EachBody m input acts more → (words : ℕ) → words ≤ most_set →
-    (labels : List Label) (level number line index : ℕ) → Inner m a.head false false level number → line < 2 ^ 31 →
+    (labels : List Label) (level number line index : ℕ) → Inner m a.head [] false level number → line < 2 ^ 31 →
     Linked (links_for program) (linked_code (code_for program)) index
     (stmt_code (environment_for program a.head) (set_aside words) (call_statement level number line)) →
     DoesWith words (block_of_run program input acts valued (suc more) a) labels (call_statement level number line) index
@@ -309,7 +367,7 @@ value_by :
     MarkedOnce → {program : Y.Program} (m : Main program) (input : List ℕ) (acts : ℕ) (valued : Bool) (more b : ℕ)
     (a : Running) → acts + 1 < 2 ^ 64 → IsRunning m input acts valued (suc more) a (suc b) →
     EachBody m input acts more → (words : ℕ) → words ≤ most_set →
-    (labels : List Label) (line level number : ℕ) → Inner m a.head false true level number →
+    (labels : List Label) (line level number : ℕ) → Inner m a.head [] true level number →
     L.Does (setting_around words (block_of_run program input acts valued (suc more) a) labels line (most_for program)) 0
     (call_number level number)
 value_by once {program} m input acts valued more b a few h each words set labels line level number i =
@@ -362,31 +420,31 @@ value_by once {program} m input acts valued more b a few h each words set labels
 knows_calls :
     MarkedOnce → {program : Y.Program} (m : Main program) (input : List ℕ) (acts : ℕ) (valued : Bool)
     (more blocks : ℕ) (a : Running) → acts + 1 < 2 ^ 64 → IsRunning m input acts valued (suc more) a blocks →
-    EachBody m input acts more →
-    KnowsCalls (scope_of m.short program m.called a.head a.body) (block_of_run program input acts valued (suc more) a)
-    (labels_in a.body ++ []) (most_for program) left_over
-knows_calls once m input acts valued more zero a few h each =
+    EachBody m input acts more → (own : List Label) →
+    KnowsCalls (scope_of program m.called a.head a.body) (block_of_run program input acts valued (suc more) a)
+    own (most_for program) left_over
+knows_calls once m input acts valued more zero a few h each own =
     let some = h.depth.some in absurd (omega (arith, some))
-knows_calls once m input acts valued more (suc b) a few h each =
+knows_calls once m input acts valued more (suc b) a few h each own =
     record {
       functions = λ words set labels line level n includes f.
           value_by once m input acts valued more b a few h each words set.0 labels line level n
-          (inner_is m a.head false true level n f);
+          (inner_none m a.head true level n f);
       procedures = λ words set labels level n line index includes f less l.
           call_by once m input acts valued more b a few h each words set.0 labels level n line index
-          (inner_is m a.head false false level n f) less l;
+          (inner_none m a.head false level n f) less l;
     }
 
 pub each_body :
-    MarkedOnce → {program : Y.Program} (m : Main program) (input : List ℕ) (acts : ℕ) → acts + 1 < limit_by m.short →
+    MarkedOnce → {program : Y.Program} (m : Main program) (input : List ℕ) (acts : ℕ) → acts + 1 < 2 ^ 64 →
     (more : ℕ) → EachBody m input acts more
 each_body once m input acts few zero valued a blocks h =
     let enough = h.running.enough in
     let allowed = h.running.begun.resumes.stands.allowed in
     absurd (omega (arith, enough, allowed))
 each_body once m input acts few (suc more) valued a blocks h =
-    body_each once m input acts valued (suc more) a blocks (few_acts m.short acts few) h
-    (λ layers is.
-    knows_calls once m input acts valued more blocks (record a { layers = layers }) (few_acts m.short acts few) is
-    (each_body once m input acts few more))
+    body_each once m input acts valued (suc more) a blocks few h
+    (λ layers texts own is.
+    knows_calls once m input acts valued more blocks (record a { layers = layers; texts = texts })
+    few is (each_body once m input acts few more) own)
     (knows_given once m input acts valued more blocks a few h (each_body once m input acts few more))

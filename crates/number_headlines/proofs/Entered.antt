@@ -13,7 +13,7 @@ use Rattle.pli_meaning.specs.StorageState.{Activation, automatic_in_use, force, 
 use Rattle.pli_meaning.specs.World.{World}
 use Rattle.pli_coding.specs.Assembly.{size_of}
 use Rattle.pli_coding.specs.Environments.{block_around}
-use Rattle.pli_coding.specs.Frames.{fixed_size, parameters_in, temporary_bytes}
+use Rattle.pli_coding.specs.Frames.{fixed_size, parameters_in, parameters_of_block, temporary_bytes}
 use Rattle.pli_coding.specs.Images.{linked_code}
 use Rattle.pli_coding.specs.Procedures.{no_value}
 use Rattle.code_marks.specs.CodeMarks.{MarkedOnce}
@@ -49,20 +49,21 @@ use Rattle.nested_calls.proofs.NestedVariables.{function_known, function_nested,
 use Rattle.nested_calls.proofs.NestedVariables.{procedure_nested, procedure_number}
 use Rattle.number_runs.specs.Arrays.{bounds_if, is_array_if}
 use Rattle.number_runs.specs.Narrow.{is_narrow_if, type_if}
-use Rattle.number_runs.specs.Numbers.{is_narrow_known}
+use Rattle.number_runs.specs.Numbers.{has_none, is_narrow_known}
 use Rattle.number_runs.specs.Numbers.{is_array_known, is_known, is_parameter_if, is_place, is_plain_if, is_received}
 use Rattle.number_runs.specs.Statements.{statements_set}
 use Rattle.number_runs.specs.Variables.{HasWords, HaveRoom, bytes_of, words_in}
-use Rattle.number_runs.proofs.Takes.{words_set}
+use Rattle.number_runs.proofs.BlocksTaken.{words_set}
 use Rattle.number_runs.proofs.Words.{all_words, function_array, function_word, own_array, own_word, room_behind}
 use Rattle.number_runs.proofs.Words.{function_narrow, own_narrow, room_fewer}
 use Rattle.number_runs.proofs.Narrow.{outer_narrow}
-use Rattle.number_headlines.specs.Programs.{is_first_alone, places_to, receivers_of, scope_of}
+use Rattle.number_headlines.specs.Programs.{places_to, receivers_of, scope_of}
 use Rattle.number_headlines.proofs.FullWords.{words_at, words_count, words_lower}
 use Rattle.number_headlines.proofs.Inner.{Inner}
 use Rattle.number_headlines.proofs.Loops.{after_waits, after_words}
 use Rattle.number_headlines.proofs.Mains.{Main, made_for, made_system, result_of, surroundings_for}
 use Rattle.number_headlines.proofs.Places.{alike_at, around_is, is_around}
+use Rattle.number_headlines.proofs.Pointers.{none_holding, none_pointing}
 use Rattle.number_headlines.proofs.Running.{IsEntered, IsRunning, Running, around_for, block_of_run, free_among, run_of}
 use Rattle.number_headlines.proofs.Running.{table_later}
 use Rattle.number_headlines.proofs.Tables.{block_known, plain_block, serials_enough}
@@ -82,7 +83,7 @@ end_by true program head body = behind_body program head body + size_of (no_valu
 
 abbrev pub site_in :
     {program : Y.Program} → {m : Main program} → {caller : Y.BlockHead} → {valued : Bool} → {level number : ℕ} →
-    Inner m caller false valued level number → (more : ℕ) → Block → (call : ℕ) → Site
+    Inner m caller [] valued level number → (more : ℕ) → Block → (call : ℕ) → Site
 site_in {program} {level = level} i more k call =
     record {
       parent = parent_at k level;
@@ -93,28 +94,30 @@ site_in {program} {level = level} i more k call =
 
 abbrev pub callee_in :
     {program : Y.Program} → {m : Main program} → {caller : Y.BlockHead} → {valued : Bool} → {level number : ℕ} →
-    Inner m caller false valued level number → (more : ℕ) → Block → (call : ℕ) → Callee
+    Inner m caller [] valued level number → (more : ℕ) → Block → (call : ℕ) → Callee
 callee_in {program} {valued = valued} i more k call =
     callee_at program i.head i.body (site_in i more k call) (end_by valued program i.head i.body)
 
 abbrev pub entered_at :
     {program : Y.Program} → {m : Main program} → {caller : Y.BlockHead} → {valued : Bool} → {level number : ℕ} →
-    Inner m caller false valued level number → Block → (call : ℕ) → Point → (numbers : ℕ → ℕ) → Running
+    Inner m caller [] valued level number → Block → (call : ℕ) → Point → (numbers : ℕ → ℕ) → Running
 entered_at {program} {valued = valued} i k call p numbers =
     run_of valued k.call.surroundings (callee_in i 0 k call) (body_for program i.head i.body) p numbers
 
 -- ---- its words
 
 pub inner_set :
-    {program : Y.Program} (m : Main program) {caller : Y.BlockHead} {given valued : Bool} {level number : ℕ}
-    (i : Inner m caller given valued level number) → (procedure_for program i.head i.body).words ≡ statements_set i.body
+    {program : Y.Program} (m : Main program) {caller : Y.BlockHead} {parameters : List ℕ} {valued : Bool}
+    {level number : ℕ} (i : Inner m caller parameters valued level number) →
+    (procedure_for program i.head i.body).words ≡ statements_set i.body
 inner_set {program} m {valued = valued} i =
-    words_set (scope_of m.short program m.called i.head i.body) valued (environment_for program i.head) i.head.number i.body
+    words_set (scope_of program m.called i.head i.body) valued (environment_for program i.head) i.head.number
+    i.body
     (block_known program.variables i.head.number m.known).known i.statements i.fits
 
 -- they don't pass the limit on what is AUTOMATIC
 abbrev pub DontPass : {program : Y.Program} → Block → {m : Main program} → {caller : Y.BlockHead} → {valued : Bool} →
-    {level number : ℕ} → Inner m caller false valued level number → Type 0
+    {level number : ℕ} → Inner m caller [] valued level number → Type 0
 DontPass {program} k i =
     automatic_in_use k.first.state.living + bytes_of (variables_of_block program i.head.number) ≤ most_automatic
 
@@ -122,7 +125,7 @@ DontPass {program} k i =
 pub begun_room :
     {program : Y.Program} (m : Main program) {input : List ℕ} {acts : ℕ} {valued : Bool} {more b : ℕ} {a : Running}
     {p : Point} {numbers : ℕ → ℕ} (o : Moment m input acts valued (suc more) a (suc b) p numbers)
-    {v : Bool} {level number : ℕ} (i : Inner m a.head false v level number) (c : Callee) →
+    {v : Bool} {level number : ℕ} (i : Inner m a.head [] v level number) (c : Callee) →
     c.procedure ≡ procedure_for program i.head i.body →
     DontPass (block_of_run program input acts valued (suc more) a) i →
     HaveRoom (surroundings_for program input acts) (begun_at (surroundings_for program input acts) c p numbers)
@@ -157,7 +160,7 @@ begun_room {program} m {input} {acts} {valued} {more} {b} {a} {p} {numbers} o {v
 pub has_words :
     {program : Y.Program} (m : Main program) {input : List ℕ} {acts : ℕ} {valued : Bool} {more b : ℕ} {a : Running}
     {p : Point} {numbers : ℕ → ℕ} (o : Moment m input acts valued (suc more) a (suc b) p numbers)
-    {v : Bool} {level number : ℕ} (i : Inner m a.head false v level number) (call : ℕ) →
+    {v : Bool} {level number : ℕ} (i : Inner m a.head [] v level number) (call : ℕ) →
     DontPass (block_of_run program input acts valued (suc more) a) i →
     HasWords (surroundings_for program input acts)
     (callee_in i more (block_of_run program input acts valued (suc more) a) call) p
@@ -187,7 +190,7 @@ has_words {program} m {input} {acts} {valued} {more} {b} {a} {p = p} {numbers = 
 pub has_all :
     {program : Y.Program} (m : Main program) {input : List ℕ} {acts : ℕ} {valued : Bool} {more b : ℕ} {a : Running}
     {p : Point} {numbers : ℕ → ℕ} (o : Moment m input acts valued (suc more) a (suc b) p numbers)
-    {v : Bool} {level number : ℕ} (i : Inner m a.head false v level number) (call : ℕ) →
+    {v : Bool} {level number : ℕ} (i : Inner m a.head [] v level number) (call : ℕ) →
     DontPass (block_of_run program input acts valued (suc more) a) i →
     AreAll (surroundings_for program input acts)
     (callee_in i more (block_of_run program input acts valued (suc more) a) call) p
@@ -200,7 +203,7 @@ has_all {program} m {input} {acts} {valued} {more} {a = a} {p = p} {numbers = nu
 pub are_made :
     {program : Y.Program} (m : Main program) {input : List ℕ} {acts : ℕ} {valued : Bool} {more b : ℕ} {a : Running}
     {p : Point} {numbers : ℕ → ℕ} (o : Moment m input acts valued (suc more) a (suc b) p numbers)
-    {v : Bool} {level number : ℕ} (i : Inner m a.head false v level number) (call : ℕ) →
+    {v : Bool} {level number : ℕ} (i : Inner m a.head [] v level number) (call : ℕ) →
     DontPass (block_of_run program input acts valued (suc more) a) i →
     AreMade (surroundings_for program input acts) (linked_code (code_for program))
     (callee_in i more (block_of_run program input acts valued (suc more) a) call) p
@@ -224,7 +227,7 @@ pub is_inside :
     {program : Y.Program} (m : Main program) {input : List ℕ} {acts : ℕ} {valued : Bool} {more blocks : ℕ}
     {a : Running} {p : Point} {numbers : ℕ → ℕ}
     (o : Moment m input acts valued (suc more) a blocks p numbers) {v : Bool} {level number : ℕ}
-    (i : Inner m a.head false v level number) (call : ℕ) →
+    (i : Inner m a.head [] v level number) (call : ℕ) →
     IsInside (block_of_run program input acts valued (suc more) a)
     (callee_in i more (block_of_run program input acts valued (suc more) a) call) level
 is_inside {program} m o {v = v} i call =
@@ -245,7 +248,7 @@ nested_by :
     (v : Bool) {program : Y.Program} (m : Main program) {input : List ℕ} {acts : ℕ} {valued : Bool} {more b : ℕ}
     {a : Running} {p : Point} {numbers : ℕ → ℕ}
     (o : Moment m input acts valued (suc more) a (suc b) p numbers) {level number : ℕ}
-    (i : Inner m a.head false v level number) (call : ℕ) →
+    (i : Inner m a.head [] v level number) (call : ℕ) →
     DontPass (block_of_run program input acts valued (suc more) a) i →
     IsBegun (block_of_run program input acts v more
     (entered_at i (block_of_run program input acts valued (suc more) a) call p numbers)) →
@@ -267,7 +270,7 @@ outer_by :
     (v : Bool) {program : Y.Program} (m : Main program) {input : List ℕ} {acts : ℕ} {valued : Bool} {more b : ℕ}
     {a : Running} {p : Point} {numbers : ℕ → ℕ}
     (o : Moment m input acts valued (suc more) a (suc b) p numbers) {level number : ℕ}
-    (i : Inner m a.head false v level number) (call : ℕ) →
+    (i : Inner m a.head [] v level number) (call : ℕ) →
     DontPass (block_of_run program input acts valued (suc more) a) i →
     IsBegun (block_of_run program input acts v more
     (entered_at i (block_of_run program input acts valued (suc more) a) call p numbers)) → (x : Spot) →
@@ -290,7 +293,7 @@ own_by :
     (v : Bool) {program : Y.Program} (m : Main program) {input : List ℕ} {acts : ℕ} {valued : Bool} {more b : ℕ}
     {a : Running} {p : Point} {numbers : ℕ → ℕ}
     (o : Moment m input acts valued (suc more) a (suc b) p numbers) {level number : ℕ}
-    (i : Inner m a.head false v level number) (call : ℕ) →
+    (i : Inner m a.head [] v level number) (call : ℕ) →
     DontPass (block_of_run program input acts valued (suc more) a) i →
     IsBegun (block_of_run program input acts v more
     (entered_at i (block_of_run program input acts valued (suc more) a) call p numbers)) → (x : Spot) →
@@ -320,7 +323,7 @@ outer_array_by :
     (v : Bool) {program : Y.Program} (m : Main program) {input : List ℕ} {acts : ℕ} {valued : Bool} {more b : ℕ}
     {a : Running} {p : Point} {numbers : ℕ → ℕ}
     (o : Moment m input acts valued (suc more) a (suc b) p numbers) {level number : ℕ}
-    (i : Inner m a.head false v level number) (call : ℕ) →
+    (i : Inner m a.head [] v level number) (call : ℕ) →
     DontPass (block_of_run program input acts valued (suc more) a) i →
     IsBegun (block_of_run program input acts v more
     (entered_at i (block_of_run program input acts valued (suc more) a) call p numbers)) → (x : Spot) (s : Bounds) →
@@ -347,7 +350,7 @@ own_array_by :
     (v : Bool) {program : Y.Program} (m : Main program) {input : List ℕ} {acts : ℕ} {valued : Bool} {more b : ℕ}
     {a : Running} {p : Point} {numbers : ℕ → ℕ}
     (o : Moment m input acts valued (suc more) a (suc b) p numbers) {level number : ℕ}
-    (i : Inner m a.head false v level number) (call : ℕ) →
+    (i : Inner m a.head [] v level number) (call : ℕ) →
     DontPass (block_of_run program input acts valued (suc more) a) i →
     IsBegun (block_of_run program input acts v more
     (entered_at i (block_of_run program input acts valued (suc more) a) call p numbers)) → (x : Spot) →
@@ -378,7 +381,7 @@ outer_narrow_by :
     (v : Bool) {program : Y.Program} (m : Main program) {input : List ℕ} {acts : ℕ} {valued : Bool} {more b : ℕ}
     {a : Running} {p : Point} {numbers : ℕ → ℕ}
     (o : Moment m input acts valued (suc more) a (suc b) p numbers) {level number : ℕ}
-    (i : Inner m a.head false v level number) (call : ℕ) →
+    (i : Inner m a.head [] v level number) (call : ℕ) →
     DontPass (block_of_run program input acts valued (suc more) a) i →
     IsBegun (block_of_run program input acts v more
     (entered_at i (block_of_run program input acts valued (suc more) a) call p numbers)) → (x : Spot) (s : Y.LeafType) →
@@ -405,7 +408,7 @@ own_narrow_by :
     (v : Bool) {program : Y.Program} (m : Main program) {input : List ℕ} {acts : ℕ} {valued : Bool} {more b : ℕ}
     {a : Running} {p : Point} {numbers : ℕ → ℕ}
     (o : Moment m input acts valued (suc more) a (suc b) p numbers) {level number : ℕ}
-    (i : Inner m a.head false v level number) (call : ℕ) →
+    (i : Inner m a.head [] v level number) (call : ℕ) →
     DontPass (block_of_run program input acts valued (suc more) a) i →
     IsBegun (block_of_run program input acts v more
     (entered_at i (block_of_run program input acts valued (suc more) a) call p numbers)) → (x : Spot) →
@@ -432,8 +435,8 @@ own_narrow_by true {program} m {input} {acts} {valued} {more} {a = a} {p = p} {n
 -- ---- what it may name
 
 -- where the block that declares it stands: around the calling block too, or it is the block that is entered
-pub record StandsAt {program : Y.Program} {m : Main program} {caller : Y.BlockHead} {g v : Bool} {level number : ℕ}
-    (i : Inner m caller g v level number) (x : Spot) : Type 0
+pub record StandsAt {program : Y.Program} {m : Main program} {caller : Y.BlockHead} {ns : List ℕ} {v : Bool}
+    {level number : ℕ} (i : Inner m caller ns v level number) (x : Spot) : Type 0
   where
     pub at :
         ((x.level ≤ level)
@@ -441,8 +444,8 @@ pub record StandsAt {program : Y.Program} {m : Main program} {caller : Y.BlockHe
         ⊎ ((x.block ≡ i.head.number) × (x.level ≡ i.head.level))
 
 pub stands_at :
-    {program : Y.Program} {m : Main program} {caller : Y.BlockHead} {g v : Bool} {level number : ℕ}
-    (i : Inner m caller g v level number) (x : Spot) →
+    {program : Y.Program} {m : Main program} {caller : Y.BlockHead} {ns : List ℕ} {v : Bool}
+    {level number : ℕ} (i : Inner m caller ns v level number) (x : Spot) →
     list_any (is_place x) (places_to (environment_for program i.head) i.head.level) ≡ true → StandsAt i x
 stands_at {program} {caller = caller} {v = v} {level = level} i x h =
     record { at = by (nat_le x.level level) refl }
@@ -480,11 +483,11 @@ each_number :
     {program : Y.Program} (m : Main program) {input : List ℕ} {acts : ℕ} {valued : Bool} {more b : ℕ}
     {a : Running} {p : Point} {numbers : ℕ → ℕ}
     (o : Moment m input acts valued (suc more) a (suc b) p numbers) {v : Bool} {level number : ℕ}
-    (i : Inner m a.head false v level number) (call : ℕ) →
+    (i : Inner m a.head [] v level number) (call : ℕ) →
     DontPass (block_of_run program input acts valued (suc more) a) i →
     IsBegun (block_of_run program input acts v more
     (entered_at i (block_of_run program input acts valued (suc more) a) call p numbers)) → (x : Spot) →
-    is_known (scope_of m.short program m.called i.head i.body) x ≡ true →
+    is_known (scope_of program m.called i.head i.body) x ≡ true →
     IsNumber (block_of_run program input acts v more
     (entered_at i (block_of_run program input acts valued (suc more) a) call p numbers)) x
 each_number {program} m {input} {acts} {valued} {more} {b} {a} {p} {numbers} o {v} {level} i call pass b' x h =
@@ -514,11 +517,11 @@ each_array :
     {program : Y.Program} (m : Main program) {input : List ℕ} {acts : ℕ} {valued : Bool} {more b : ℕ}
     {a : Running} {p : Point} {numbers : ℕ → ℕ}
     (o : Moment m input acts valued (suc more) a (suc b) p numbers) {v : Bool} {level number : ℕ}
-    (i : Inner m a.head false v level number) (call : ℕ) →
+    (i : Inner m a.head [] v level number) (call : ℕ) →
     DontPass (block_of_run program input acts valued (suc more) a) i →
     IsBegun (block_of_run program input acts v more
     (entered_at i (block_of_run program input acts valued (suc more) a) call p numbers)) → (x : Spot) →
-    is_array_known (scope_of m.short program m.called i.head i.body) x ≡ true →
+    is_array_known (scope_of program m.called i.head i.body) x ≡ true →
     IsArray (block_of_run program input acts v more
     (entered_at i (block_of_run program input acts valued (suc more) a) call p numbers)) x
     (bounds_if (declared_variable program (variable_of x)))
@@ -550,11 +553,11 @@ each_narrow :
     {program : Y.Program} (m : Main program) {input : List ℕ} {acts : ℕ} {valued : Bool} {more b : ℕ}
     {a : Running} {p : Point} {numbers : ℕ → ℕ}
     (o : Moment m input acts valued (suc more) a (suc b) p numbers) {v : Bool} {level number : ℕ}
-    (i : Inner m a.head false v level number) (call : ℕ) →
+    (i : Inner m a.head [] v level number) (call : ℕ) →
     DontPass (block_of_run program input acts valued (suc more) a) i →
     IsBegun (block_of_run program input acts v more
     (entered_at i (block_of_run program input acts valued (suc more) a) call p numbers)) → (x : Spot) →
-    is_narrow_known (scope_of m.short program m.called i.head i.body) x ≡ true →
+    is_narrow_known (scope_of program m.called i.head i.body) x ≡ true →
     IsScalar (block_of_run program input acts v more
     (entered_at i (block_of_run program input acts valued (suc more) a) call p numbers)) x
     (type_if (declared_variable program (variable_of x)))
@@ -587,7 +590,7 @@ pub unraised_there :
     {program : Y.Program} (m : Main program) {input : List ℕ} {acts : ℕ} {valued : Bool} {more blocks : ℕ}
     {a : Running} {p : Point} {numbers : ℕ → ℕ}
     (o : Moment m input acts valued (suc more) a blocks p numbers) {v : Bool} {level number : ℕ}
-    (i : Inner m a.head false v level number) (call : ℕ) (c : Condition) →
+    (i : Inner m a.head [] v level number) (call : ℕ) (c : Condition) →
     IsSystem (force (block_of_run program input acts v more
     (entered_at i (block_of_run program input acts valued (suc more) a) call p numbers)).first.state.activations c)
 unraised_there {program} m o i call c =
@@ -598,7 +601,7 @@ unraised_there {program} m o i call c =
 
 ends_by :
     (v : Bool) → MarkedOnce → {program : Y.Program} (m : Main program) {caller : Y.BlockHead} {level number : ℕ}
-    (i : Inner m caller false v level number) →
+    (i : Inner m caller [] v level number) →
     IsEnd (links_for program) i.head.number (end_by v program i.head i.body)
 ends_by false once {program} m i = end_is once program i.head i.body m.loadable i.is
 ends_by true once {program} m i =
@@ -607,21 +610,23 @@ ends_by true once {program} m i =
 
 -- without a parameter it names none
 pub none_received :
-    (short : Bool) (program : Y.Program) (ns : List ℕ) (head : Y.BlockHead) (body : Y.Stmts)
-    (result : Option Y.LeafType) (x : Spot) → IsProcedure program head body result → is_received (scope_of short program ns head body) x ≡ true → ⊥
-none_received short program ns head body result x is h =
-    let rest = (x.index == 0) && is_parameter_if (declared_variable program (parameter_of x)) in
+    (program : Y.Program) (ns : List ℕ) (head : Y.BlockHead) (body : Y.Stmts)
+    (result : Option Y.LeafType) (x : Spot) → IsProcedure program head body result →
+    is_received (scope_of program ns head body) x ≡ true → ⊥
+none_received program ns head body result x is h =
+    let rest = list_any (λ n. n == x.index) (parameters_of_block program x.block)
+    && is_parameter_if (declared_variable program (parameter_of x)) in
     let none = ap parameters_in is in
     let some : (list_any (is_place x) (receivers_of program head) && rest) ≡ true = h in
     cc (subst (λ qs.
     (list_any (is_place x)
-    (if is_first_alone qs then record { number = head.number; level = head.level } ∷ [] else []) && rest) ≡ true) none
+    (if has_none qs then [] else record { number = head.number; level = head.level } ∷ []) && rest) ≡ true) none
     some)
 
 pub entered :
     MarkedOnce → {program : Y.Program} (m : Main program) {input : List ℕ} {acts : ℕ} {valued : Bool} {more b : ℕ}
     {a : Running} {p : Point} {numbers : ℕ → ℕ} (o : Moment m input acts valued (suc more) a (suc b) p numbers)
-    {v : Bool} {level number : ℕ} (i : Inner m a.head false v level number) (call : ℕ) →
+    {v : Bool} {level number : ℕ} (i : Inner m a.head [] v level number) (call : ℕ) →
     DontPass (block_of_run program input acts valued (suc more) a) i →
     nat_lt (length (block_of_run program input acts valued (suc more) a).first.state.activations) most_activations
     ≡ true →
@@ -683,7 +688,7 @@ entered once {program} m {input} {acts} {valued} {more} {b} {a} {p} {numbers} o 
         variables = λ x h. each_number m o i call pass b' x h;
         arrays = λ x h. each_array m o i call pass b' x h;
         narrows = λ x h. each_narrow m o i call pass b' x h;
-        parameters = λ x h. absurd (none_received m.short program m.called i.head i.body (result_of v) x i.is h);
+        parameters = λ x h. absurd (none_received program m.called i.head i.body (result_of v) x i.is h);
         unraised = λ condition. unraised_there m o i call condition;
         idle = made_idle φ xs start;
         told = called_of_program program k (block_of_run program input acts v more (entered_at i k call p numbers))
@@ -706,4 +711,6 @@ entered once {program} m {input} {acts} {valued} {more} {b} {a} {p} {numbers} o 
       };
       words = after_words serial φ xs ∙ inner_set m i;
       clear = ap (λ waits. with_waits waits (layer_after image_parts serial φ xs)) (sym (after_waits serial φ xs));
+      pointers = λ x h. absurd (none_pointing program m.called i.head i.body _ x i.inside h);
+      areas = λ x h. absurd (none_holding program m.called i.head i.body _ x i.inside h);
     }

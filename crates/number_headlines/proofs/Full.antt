@@ -1,5 +1,5 @@
 -- What is called where its variables pass the limit on what is AUTOMATIC: making them ends the run.
-use Rattle.std.proofs.Common.{◌≡◌, ℕ, suc, ◌+◌, ◌^◌, ◌<◌, List, length, Bool, false, refl, ap, ◌∙◌, subst, arith}
+use Rattle.std.proofs.Common.{◌≡◌, ℕ, suc, ◌+◌, ◌^◌, ◌<◌, List, [], length, Bool, false, refl, ap, ◌∙◌, subst, arith}
 use Rattle.pli_typing.specs.TypedTree as Y
 use Rattle.pli_meaning.specs.DeclaredShapes.{variables_of_block}
 use Rattle.pli_meaning.specs.Executing as M
@@ -31,7 +31,7 @@ use Rattle.number_headlines.proofs.Tables.{plain_block}
 pub are_full :
     {program : Y.Program} (m : Main program) {input : List ℕ} {acts : ℕ} {valued : Bool} {more b : ℕ}
     {a : Running} {p : Point} {numbers : ℕ → ℕ} (o : Moment m input acts valued (suc more) a (suc b) p numbers)
-    {v : Bool} {level number : ℕ} (i : Inner m a.head false v level number) (call : ℕ) → acts + 1 < 2 ^ 64 →
+    {v : Bool} {level number : ℕ} (i : Inner m a.head [] v level number) (call : ℕ) → acts + 1 < 2 ^ 64 →
     most_automatic < automatic_in_use (block_of_run program input acts valued (suc more) a).first.state.living
     + bytes_of (variables_of_block program i.head.number) →
     AreFull (surroundings_for program input acts) (linked_code (code_for program))

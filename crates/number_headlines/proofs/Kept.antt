@@ -1,6 +1,6 @@
 -- The main procedure of a program of the class: each of its statements does what it means, and so it keeps the
 -- headline.
-use Rattle.std.proofs.Common.{◌≡◌, ℕ, ◌+◌, ◌<◌, List, [], ◌∷◌, ◌++◌, length, None, true, false, refl, sym, ap, ◌∙◌}
+use Rattle.std.proofs.Common.{◌≡◌, ℕ, ◌+◌, ◌<◌, List, [], ◌∷◌, ◌++◌, length, None, true, false, refl, sym, ap, ◌∙◌, ◌^◌}
 use Rattle.std.proofs.Common.{subst, arith}
 use Rattle.std.specs.List.{list_any}
 use Rattle.std.proofs.lemmas.Bool.{and_parts}
@@ -38,28 +38,31 @@ use Rattle.variable_runs.specs.Lists.{all_made, behind_made, layer_after, layer_
 use Rattle.variable_runs.proofs.Lists.{all_procedure}
 use Rattle.pli_headline.specs.Headline.{FitsMemory, Headline, parts}
 use Rattle.block_headlines.proofs.Constants.{constants_stand}
-use Rattle.block_headlines.specs.Headlines.{HeadlinesKept, Layout, RunsWithin, ShortHeadlinesKept}
+use Rattle.block_headlines.specs.Headlines.{HeadlinesKept, Layout, Runs}
 use Rattle.nested_calls.specs.Nested.{IsNested}
 use Rattle.number_runs.specs.Arrays.{bounds_if, is_array_if}
 use Rattle.number_runs.specs.Narrow.{is_narrow_if, type_if}
 use Rattle.number_runs.specs.Numbers.{is_array_known, is_known, is_narrow_known, is_place, is_plain_if}
-use Rattle.number_runs.specs.Variables.{words_in}
-use Rattle.number_runs.proofs.Words.{room_behind}
-use Rattle.pli_headline.specs.Within.{HeadlineWithin}
-use Rattle.number_headlines.specs.Headlines.{IsGivenProgram, IsNumberProgram}
-use Rattle.number_headlines.specs.Programs.{are_all_known, has_main, places_to, scope_of, serials_for, short_limit}
+use Rattle.area_runs.specs.Allocations.{HasArea}
+use Rattle.number_runs.specs.Areas.{held_in}
+use Rattle.number_runs.specs.Based.{is_area_if, is_pointer_if}
+use Rattle.number_runs.specs.Numbers.{is_area_known, is_pointer_known}
+use Rattle.number_runs.proofs.AreaWords.{held_behind}
+use Rattle.number_headlines.specs.Headlines.{IsNumberProgram}
+use Rattle.number_headlines.specs.Programs.{are_all_known, has_main, most_words, places_to, pointers_of, scope_of}
 use Rattle.number_headlines.proofs.Bodies.{each_body}
 use Rattle.number_headlines.proofs.Entered.{made_idle, none_received}
-use Rattle.number_headlines.proofs.FullWords.{words_at, words_count, words_lower}
-use Rattle.number_headlines.proofs.Mains.{few_acts, limit_by, limit_low, Main, block_for, level_of, made_for}
-use Rattle.number_headlines.proofs.Mains.{made_system, main_all, main_begun, main_array, main_narrow, main_for, main_is}
+use Rattle.number_headlines.proofs.FullWords.{words_at, words_lower}
+use Rattle.number_headlines.proofs.Mains.{Main, block_for, level_of, made_system, main_all, main_begun, main_area}
+use Rattle.number_headlines.proofs.Mains.{main_array, main_for, main_narrow, held_for, main_is, main_pointer}
 use Rattle.number_headlines.proofs.Mains.{main_layer, main_number, main_room, main_spare, main_told, own_words, placed}
 use Rattle.number_headlines.proofs.Mains.{run_for}
 use Rattle.number_headlines.proofs.Mains.{spare, start_for, surroundings_for}
 use Rattle.number_headlines.proofs.Loops.{after_waits, after_words}
 use Rattle.number_headlines.proofs.Places.{around_is}
-use Rattle.number_headlines.proofs.Running.{IsEntered, Running, run_of, table_later}
-use Rattle.number_headlines.proofs.Tables.{has_start, has_table, plain_block}
+use Rattle.number_headlines.proofs.Pointers.{pointers_own}
+use Rattle.number_headlines.proofs.Running.{IsEntered, IsPointing, Running, run_of, table_later}
+use Rattle.number_headlines.proofs.Tables.{has_start, has_table, held_block}
 
 -- ---- the main procedure as the first block that runs
 
@@ -94,7 +97,7 @@ main_lone :
     {program : Y.Program} (m : Main program) (input : List ℕ) (acts : ℕ) →
     Lone m.head.level (block_for m input acts).first.state.activations
 main_lone {program} m input acts =
-    made_lone m.head.level (main_layer m input acts) (words_in (environment_for program m.head))
+    made_lone m.head.level (main_layer m input acts) (held_in (environment_for program m.head))
     (main_begun m input acts)
     (record { bindings = []; is = refl })
 
@@ -141,7 +144,8 @@ main_owns {program} m x h =
 
 main_variable :
     {program : Y.Program} (m : Main program) (input : List ℕ) (acts : ℕ) → IsBegun (block_for m input acts) →
-    (x : Spot) → is_known (scope_of m.short program m.called m.head m.body) x ≡ true → IsNumber (block_for m input acts) x
+    (x : Spot) → is_known (scope_of program m.called m.head m.body) x ≡ true →
+    IsNumber (block_for m input acts) x
 main_variable {program} m input acts b x h =
     let plain = is_plain_if (declared_variable program (variable_of x)) in
     let a = and_parts (list_any (is_place x) (places_to (environment_for program m.head) m.head.level)) plain h in
@@ -150,7 +154,7 @@ main_variable {program} m input acts b x h =
 
 main_element :
     {program : Y.Program} (m : Main program) (input : List ℕ) (acts : ℕ) → IsBegun (block_for m input acts) →
-    (x : Spot) → is_array_known (scope_of m.short program m.called m.head m.body) x ≡ true →
+    (x : Spot) → is_array_known (scope_of program m.called m.head m.body) x ≡ true →
     IsArray (block_for m input acts) x (bounds_if (declared_variable program (variable_of x)))
 main_element {program} m input acts b x h =
     let array = is_array_if (declared_variable program (variable_of x)) in
@@ -160,13 +164,38 @@ main_element {program} m input acts b x h =
 
 main_scalar :
     {program : Y.Program} (m : Main program) (input : List ℕ) (acts : ℕ) → IsBegun (block_for m input acts) →
-    (x : Spot) → is_narrow_known (scope_of m.short program m.called m.head m.body) x ≡ true →
+    (x : Spot) → is_narrow_known (scope_of program m.called m.head m.body) x ≡ true →
     IsScalar (block_for m input acts) x (type_if (declared_variable program (variable_of x)))
 main_scalar {program} m input acts b x h =
     let narrow = is_narrow_if (declared_variable program (variable_of x)) in
     let a = and_parts (list_any (is_place x) (places_to (environment_for program m.head) m.head.level)) narrow h in
     let own = main_owns m x a.0 in
     main_narrow m input acts x (record { block = own.0; level = own.1; narrow = a.1 }) b
+
+-- and its own pointers and areas
+main_points :
+    {program : Y.Program} (m : Main program) (input : List ℕ) (acts : ℕ) → IsBegun (block_for m input acts) →
+    (x : Spot) → is_pointer_known (scope_of program m.called m.head m.body) x ≡ true →
+    IsPointing program (block_for m input acts) m.head x
+main_points {program} m input acts b x h =
+    let pointer = is_pointer_if (declared_variable program (variable_of x)) in
+    let a = and_parts (list_any (is_place x) (pointers_of m.head)) pointer h in
+    let own = pointers_own m.head x a.0 in
+    record {
+      known = main_pointer m input acts x (record { block = own.0; level = own.1; pointer = a.1 }) b;
+      own = own.1;
+      low = omega arith;
+    }
+
+main_holds :
+    {program : Y.Program} (m : Main program) (input : List ℕ) (acts : ℕ) → IsBegun (block_for m input acts) →
+    (x : Spot) → is_area_known (scope_of program m.called m.head m.body) x ≡ true →
+    HasArea (block_for m input acts) x
+main_holds {program} m input acts b x h =
+    let area = is_area_if (declared_variable program (variable_of x)) in
+    let a = and_parts (list_any (is_place x) (pointers_of m.head)) area h in
+    let own = pointers_own m.head x a.0 in
+    main_area m input acts x (record { block = own.0; level = own.1; area = a.1 }) b
 
 main_running :
     MarkedOnce → {program : Y.Program} (m : Main program) (input : List ℕ) (acts : ℕ) →
@@ -176,7 +205,7 @@ main_running once {program} m input acts b =
     let w = surroundings_for program input acts in
     let start = main_begun m input acts in
     let φ = main_layer m input acts in
-    let xs = words_in (environment_for program m.head) in
+    let xs = held_in (environment_for program m.head) in
     let serial = start.state.serials + 1 in
     let first = b.acts in
     let one = main_lone m input acts in
@@ -185,14 +214,13 @@ main_running once {program} m input acts b =
     let e = environment_for program m.head in
     let spot = fixed_size m.head.level 0 in
     let spared = main_spare m input acts in
-    let plain = plain_block program.variables m.head.number m.known m.own in
-    let room = room_behind w start φ [] e spot 0 spare ds plain.plain spared in
+    let held = held_block program.variables m.head.number m.known m.own in
+    let room = held_behind w start φ [] e spot 0 spare ds refl refl held.any spared in
     let place = room.here in
+    let limit = room.limit in
     let lower = words_lower image_parts (start.state.serials + 1) φ xs in
-    let counts = words_count image_parts start φ e spot 0 ds plain.plain
-    (record { activation = _; below = _; active = refl; some = omega arith }) in
     let at = words_at image_parts (start.state.serials + 1) φ xs in
-    let few = plain.room in
+    let few = held.room in
     let level = level_of m in
     let words = own_words m in
     let waiting = m.waiting in
@@ -215,7 +243,7 @@ main_running once {program} m input acts b =
         variables = λ x h. main_variable m input acts b x h;
         arrays = λ x h. main_element m input acts b x h;
         narrows = λ x h. main_scalar m input acts b x h;
-        parameters = λ x h. absurd (none_received m.short program m.called m.head m.body None x found h);
+        parameters = λ x h. absurd (none_received program m.called m.head m.body None x found h);
         unraised = λ c. made_system image_parts _ xs _ c tt;
         idle = made_idle φ xs start;
         told = main_told m input acts b;
@@ -226,18 +254,20 @@ main_running once {program} m input acts b =
           even = room.even;
           under = omega (arith, lower);
           low = room.low;
-          used = omega (arith, counts, few);
-          fits = omega (arith, words, waiting, level, place, at, lower, counts);
+          used = omega (arith, limit);
+          fits = omega (arith, words, waiting, level, place, at, lower, few);
         };
         tabled = table_later program b.remains (λ head. has_table program head m.known);
         depth = record { some = omega arith; all = omega (arith, long) };
       };
       words = after_words serial φ xs ∙ own_words m;
       clear = ap (λ waits. with_waits waits (layer_after image_parts serial φ xs)) (sym (after_waits serial φ xs));
+      pointers = λ x h. main_points m input acts b x h;
+      areas = λ x h. main_holds m input acts b x h;
     }
 
 main_each :
-    MarkedOnce → {program : Y.Program} (m : Main program) (input : List ℕ) (acts : ℕ) → acts + 1 < limit_by m.short →
+    MarkedOnce → {program : Y.Program} (m : Main program) (input : List ℕ) (acts : ℕ) → acts + 1 < 2 ^ 64 →
     IsBegun (block_for m input acts) →
     EachDoes (block_for m input acts) (labels_in m.body ++ []) m.body (body_for program m.head m.body) left_over
 main_each once {program} m input acts few b =
@@ -257,23 +287,23 @@ layout_for {program} m =
       units = [];
       constants = constants_in (code_for program);
       fills = [];
-      serials = serials_for program;
-      made = made_for program m.head;
+      serials = most_words;
+      made = held_for program m.head;
     }
 
 program_runs :
     MarkedOnce → TableDiffers → {program : Y.Program} (m : Main program) → FitsMemory (picture_of parts program) →
-    RunsWithin (limit_by m.short) program (layout_for m)
+    Runs program (layout_for m)
 program_runs once tables {program} m fits =
     record {
       whole = λ input acts few.
-          whole_stands once tables program (placed m) (run_for program input acts) (made_for program m.head)
+          whole_stands once tables program (placed m) (run_for program input acts) (held_for program m.head)
           (first_bytes (picture_of parts program)) m.loadable (has_start program m.known) m.main
           (first_length (picture_of parts program) m.loadable.fits fits.statics_fit)
-          (constants_stand (code_for program) fits) (few_acts m.short acts few)
+          (constants_stand (code_for program) fits) few
           (all_procedure (surroundings_for program input acts) (linked_code (code_for program))
           (main_for m input acts)
-          (start_for program input acts) no_numbers (words_in (environment_for program m.head))
+          (start_for program input acts) no_numbers (held_in (environment_for program m.head))
           (main_all m input acts))
           (main_room m input acts);
       each = λ input acts few b. main_each once m input acts few b;
@@ -284,19 +314,7 @@ pub headline_kept :
     FitsMemory (picture_of parts program) →
     Headline program (picture_of parts program) (table_of program)
 headline_kept once tables kept program h fits =
-    let a = and_parts (are_all_known program.variables) (has_main false program program.procedures) h.numbers in
+    let a = and_parts (are_all_known program.variables) (has_main program program.procedures) h.numbers in
     let load : IsLoadable program = record { well_formed = h.well_formed; fits = fits.code_fits } in
-    let m = main_is false program program.procedures refl a.0 load fits a.1 in
-    kept program (layout_for m.is) (subst (λ q. RunsWithin (limit_by q) program (layout_for m.is)) m.same
-    (program_runs once tables m.is fits))
-
-pub short_headline_kept :
-    MarkedOnce → TableDiffers → ShortHeadlinesKept → (program : Y.Program) → IsGivenProgram program →
-    FitsMemory (picture_of parts program) →
-    HeadlineWithin short_limit program (picture_of parts program) (table_of program)
-short_headline_kept once tables kept program h fits =
-    let a = and_parts (are_all_known program.variables) (has_main true program program.procedures) h.numbers in
-    let load : IsLoadable program = record { well_formed = h.well_formed; fits = fits.code_fits } in
-    let m = main_is true program program.procedures refl a.0 load fits a.1 in
-    kept short_limit program (layout_for m.is) (subst (λ q. RunsWithin (limit_by q) program (layout_for m.is)) m.same
-    (program_runs once tables m.is fits)) (limit_low true)
+    let m = main_is program program.procedures refl a.0 load fits a.1 in
+    kept program (layout_for m) (program_runs once tables m fits)

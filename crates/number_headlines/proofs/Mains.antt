@@ -38,15 +38,19 @@ use Rattle.element_runs.specs.Arrays.{IsArray}
 use Rattle.scalar_runs.specs.Scalars.{IsScalar}
 use Rattle.number_runs.specs.Numbers.{has_none}
 use Rattle.number_runs.specs.Statements.{are_statements, statements_need, statements_set}
-use Rattle.number_runs.specs.Variables.{HasWords, HaveRoom, IsOwnArray, IsOwnWord, are_plain, bytes_of, own_bounds}
-use Rattle.number_runs.specs.Variables.{IsOwnNarrow, own_type, words_in}
-use Rattle.number_runs.proofs.Takes.{plain_known, words_set}
-use Rattle.number_runs.proofs.Words.{all_words, own_array, own_narrow, own_word, room_fewer}
+use Rattle.variable_runs.specs.Known.{IsKnown}
+use Rattle.area_runs.specs.Allocations.{HasArea}
+use Rattle.area_runs.specs.Based.{pointer_declared}
+use Rattle.number_runs.specs.Areas.{HasAreas, IsOwnArea, IsOwnPointer, held_bytes, held_in}
+use Rattle.number_runs.specs.Variables.{HaveRoom, IsOwnArray, IsOwnNarrow, IsOwnWord, own_bounds, own_type, words_in}
+use Rattle.number_runs.proofs.AreaKnown.{all_held, held_area, held_array, held_narrow, held_pointer, held_word}
+use Rattle.number_runs.proofs.BlocksTaken.{words_set}
+use Rattle.number_runs.proofs.Words.{room_fewer}
 use Rattle.number_runs.proofs.Variables.{fixed_is}
-use Rattle.number_headlines.specs.Programs.{are_all_known, are_inner, body_of, callable_ones, has_main, has_parameters}
-use Rattle.number_headlines.specs.Programs.{are_single, has_result, is_body, most_bytes, most_waiting, most_words}
-use Rattle.number_headlines.specs.Programs.{scope_of, serials_for, short_limit}
-use Rattle.number_headlines.proofs.Tables.{has_table, plain_block, serials_enough}
+use Rattle.number_headlines.specs.Programs.{are_all_known, are_inner, body_of, callable_ones, has_main}
+use Rattle.number_headlines.specs.Programs.{has_result, is_body, most_bytes, most_waiting, most_words, are_held}
+use Rattle.number_headlines.specs.Programs.{scope_of}
+use Rattle.number_headlines.proofs.Tables.{block_known, has_table, held_block, serials_enough}
 
 -- ---- no unit comes with variables
 
@@ -90,78 +94,67 @@ result_is true (Some t) h = ap (λ u. Some u) (fixed_is t h)
 block_is : (b : Y.Block) → b ≡ Y.BlockOf (head_of b) (body_of b)
 block_is (Y.BlockOf head body) = refl
 
-abbrev pub parameters_by : (given : Bool) → List ℕ
-parameters_by false = []
-parameters_by true = 0 ∷ []
-
-parameters_are : (given : Bool) (ns : List ℕ) → has_parameters given ns ≡ true → ns ≡ parameters_by given
-parameters_are false ns h = none_of ns h
-parameters_are true [] h = absurd (cc h)
-parameters_are true (n ∷ []) h = ap (λ i. i ∷ []) (eqb-true n 0 h)
-parameters_are true (n ∷ i ∷ ns) h = absurd (cc h)
-
 pub received_is :
-    (given valued : Bool) (p : Y.Procedure) → has_parameters given p.parameters ≡ true →
-    has_result valued p.result ≡ true →
+    (valued : Bool) (p : Y.Procedure) → has_result valued p.result ≡ true →
     p
     ≡ record {
       block = Y.BlockOf (head_of p.block) (body_of p.block);
-      parameters = parameters_by given;
+      parameters = p.parameters;
       result = result_of valued;
     }
-received_is given valued p h g =
+received_is valued p g =
     let head = head_of p.block in
     let body = body_of p.block in
     ap (λ x. record p { block = x }) (block_is p.block)
-    ∙ ap (λ x. record p { block = Y.BlockOf head body; parameters = x }) (parameters_are given p.parameters h)
     ∙ ap (λ (x : Option Y.LeafType).
-    let q : Y.Procedure = record { block = Y.BlockOf head body; parameters = parameters_by given; result = x } in q)
+    let q : Y.Procedure = record { block = Y.BlockOf head body; parameters = p.parameters; result = x } in q)
     (result_is valued p.result g)
 
 pub procedure_is :
     (valued : Bool) (p : Y.Procedure) → has_none p.parameters ≡ true → has_result valued p.result ≡ true →
     p ≡ record { block = Y.BlockOf (head_of p.block) (body_of p.block); parameters = []; result = result_of valued }
-procedure_is valued p h g = received_is false valued p h g
+procedure_is valued p h g =
+    received_is valued p g
+    ∙ ap (λ (ns : List ℕ).
+    let q : Y.Procedure = record {
+      block = Y.BlockOf (head_of p.block) (body_of p.block);
+      parameters = ns;
+      result = result_of valued;
+    } in q) (none_of p.parameters h)
 
 -- its program, with what the class says of it
 pub record Main (program : Y.Program) : Type 0 where
-  -- whether calls may have arguments in short runs alone
-  pub short : Bool
   pub head : Y.BlockHead
   pub body : Y.Stmts
   pub others : List Y.Procedure
   pub main : IsMain program (record { head = head; body = body; others = others })
   pub known : are_all_known program.variables ≡ true
-  pub own : are_plain (variables_of_block program head.number) ≡ true
+  pub own : are_held (variables_of_block program head.number) ≡ true
   pub loadable : IsLoadable program
   pub memory : FitsMemory (picture_of parts program)
   -- the numbers of the procedures that it calls, and that they call
   pub called : List ℕ
-  pub statements : are_statements (scope_of short program called head body) false (labels_in body ++ []) body ≡ true
+  pub statements : are_statements (scope_of program called head body) false (labels_in body ++ []) body ≡ true
   pub fits : statements_need body ≤ held_registers
   pub waiting : statements_set body ≤ most_waiting
-  pub inners : are_inner short program called called ≡ true
+  pub inners : are_inner program called called ≡ true
 
 -- as it is placed
 abbrev pub placed : {program : Y.Program} → Main program → Placed.Main
 placed m = record { head = m.head; body = m.body; others = m.others }
 
-pub record MainOf (short : Bool) (program : Y.Program) : Type 0 where
-  pub is : Main program
-  pub same : is.short ≡ short
-
 pub main_is :
-    (short : Bool) (program : Y.Program) (ps : List Y.Procedure) → program.procedures ≡ ps →
+    (program : Y.Program) (ps : List Y.Procedure) → program.procedures ≡ ps →
     are_all_known program.variables ≡ true → IsLoadable program → FitsMemory (picture_of parts program) →
-    has_main short program ps ≡ true → MainOf short program
-main_is short program [] e known load fits h = absurd (cc h)
-main_is short program (p ∷ ps) e known load fits h =
+    has_main program ps ≡ true → Main program
+main_is program [] e known load fits h = absurd (cc h)
+main_is program (p ∷ ps) e known load fits h =
     let head = head_of p.block in
     let body = body_of p.block in
-    let called = callable_ones short program in
-    let s = scope_of short program called head body in
-    let plain = are_plain (variables_of_block program head.number) in
-    let all = are_inner short program called called in
+    let called = callable_ones program in
+    let s = scope_of program called head body in
+    let plain = are_held (variables_of_block program head.number) in
+    let all = are_inner program called called in
     let a = and_parts (has_none p.parameters) (has_result false p.result && (plain && (is_body s false body && all))) h
     in
     let b = and_parts (has_result false p.result) (plain && (is_body s false body && all)) a.1 in
@@ -171,58 +164,33 @@ main_is short program (p ∷ ps) e known load fits h =
     (nat_le (statements_need body) held_registers && nat_le (statements_set body) most_waiting) c.0 in
     let g = and_parts (nat_le (statements_need body) held_registers) (nat_le (statements_set body) most_waiting) f.1 in
     record {
-      same = refl;
-      is = record {
-        short = short;
-        head = head;
-        body = body;
-        others = ps;
-        main = e ∙ ap (λ x. x ∷ ps) (procedure_is false p a.0 b.0);
-        known = known;
-        own = d.0;
-        loadable = load;
-        memory = fits;
-        called = called;
-        statements = f.0;
-        fits = leb-true (statements_need body) held_registers g.0;
-        waiting = leb-true (statements_set body) most_waiting g.1;
-        inners = c.1;
-      };
+      head = head;
+      body = body;
+      others = ps;
+      main = e ∙ ap (λ x. x ∷ ps) (procedure_is false p a.0 b.0);
+      known = known;
+      own = d.0;
+      loadable = load;
+      memory = fits;
+      called = called;
+      statements = f.0;
+      fits = leb-true (statements_need body) held_registers g.0;
+      waiting = leb-true (statements_set body) most_waiting g.1;
+      inners = c.1;
     }
 
 -- ---- in a run
 
--- of fewer acts than that
-abbrev pub limit_by : (short : Bool) → ℕ
-limit_by false = 2 ^ 64
-limit_by true = short_limit
-
-pub limit_low : (short : Bool) → (1 < limit_by short) × (limit_by short ≤ 2 ^ 64)
-limit_low false = (omega arith, omega arith)
-limit_low true = (omega arith, omega arith)
-
-pub few_acts : (short : Bool) (acts : ℕ) → acts + 1 < limit_by short → acts + 1 < 2 ^ 64
-few_acts short acts few = let low = (limit_low short).1 in omega (arith, few, low)
-
--- then serial numbers have 8 bytes
-pub few_serials :
-    (short : Bool) (program : Y.Program) (acts : ℕ) → (short || are_single program.variables) ≡ true →
-    acts + 1 < limit_by short → serials_for program * acts + 1 < 2 ^ 64
-few_serials short program acts may few = by short (are_single program.variables) may few
-  where
-    by :
-        (q r : Bool) → (q || r) ≡ true → acts + 1 < limit_by q →
-        (if r then 1 else most_words) * acts + 1 < 2 ^ 64
-    by false false may' few' = absurd (cc may')
-    by false true may' few' = omega (arith, few')
-    by true false may' few' = omega (arith, few')
-    by true true may' few' = omega (arith, few')
-
+-- no more serial numbers come between two acts than a block has variables
 abbrev pub run_for : Y.Program → (input : List ℕ) → (acts : ℕ) → Run
-run_for program input acts = record { units = []; input = input; acts = acts; serials = serials_for program }
+run_for program input acts = record { units = []; input = input; acts = acts; serials = most_words }
 
 abbrev pub made_for : Y.Program → Y.BlockHead → Point → Point
 made_for program head = newest_all image_parts (words_in (environment_for program head))
+
+-- what the main procedure makes, areas among them
+abbrev pub held_for : Y.Program → Y.BlockHead → Point → Point
+held_for program head = newest_all image_parts (held_in (environment_for program head))
 
 abbrev pub surroundings_for : Y.Program → (input : List ℕ) → (acts : ℕ) → Surroundings
 surroundings_for program input acts = surroundings_of (image_for program (run_for program input acts))
@@ -232,7 +200,7 @@ start_for program input acts = start_point (image_for program (run_for program i
 
 abbrev pub main_for : {program : Y.Program} → Main program → (input : List ℕ) → (acts : ℕ) → Callee
 main_for {program} m input acts =
-    main_of (whole_for program (placed m) (run_for program input acts) (made_for program m.head))
+    main_of (whole_for program (placed m) (run_for program input acts) (held_for program m.head))
 
 pub level_of : {program : Y.Program} (m : Main program) → m.head.level ≡ 0
 level_of {program} m = (subst HasMain m.main m.loadable.well_formed.main).0
@@ -240,9 +208,9 @@ level_of {program} m = (subst HasMain m.main m.loadable.well_formed.main).0
 pub own_words :
     {program : Y.Program} (m : Main program) → (procedure_for program m.head m.body).words ≡ statements_set m.body
 own_words {program} m =
-    let plain = plain_block program.variables m.head.number m.known m.own in
-    words_set (scope_of m.short program m.called m.head m.body) false (environment_for program m.head) m.head.number m.body
-    (plain_known (variables_of_block program m.head.number) plain.plain) m.statements m.fits
+    words_set (scope_of program m.called m.head m.body) false (environment_for program m.head) m.head.number
+    m.body
+    (block_known program.variables m.head.number m.known).known m.statements m.fits
 
 parented : (level parent : ℕ) → level ≡ 0 → HasParent level parent []
 parented level parent e = subst (λ n. HasParent n parent []) (sym e) tt
@@ -283,12 +251,12 @@ pub main_spare :
     {program : Y.Program} (m : Main program) (input : List ℕ) (acts : ℕ) →
     HaveRoom (surroundings_for program input acts) (main_begun m input acts)
     (main_layer m input acts) [] (fixed_size m.head.level 0)
-    (bytes_of (variables_of_block program m.head.number) + spare)
+    (held_bytes image_parts (variables_of_block program m.head.number) + spare)
 main_spare {program} m input acts =
     let words = own_words m in
     let waiting = m.waiting in
     let level = level_of m in
-    let few = (plain_block program.variables m.head.number m.known m.own).room in
+    let few = (held_block program.variables m.head.number m.known m.own).room in
     let code = m.loadable.fits in
     record {
       newest = refl;
@@ -300,16 +268,17 @@ main_spare {program} m input acts =
       limit = omega (arith, few);
     }
 
-pub main_words :
+pub main_areas :
     {program : Y.Program} (m : Main program) (input : List ℕ) (acts : ℕ) →
-    HasWords (surroundings_for program input acts)
+    HasAreas (surroundings_for program input acts)
     (main_for m input acts)
     (start_for program input acts) no_numbers
-main_words {program} m input acts =
+main_areas {program} m input acts =
     let found = main_found program (placed m) m.main in
     let kind = (known program m.head m.body None m.loadable.well_formed found).kind in
-    let plain = plain_block program.variables m.head.number m.known m.own in
-    let n = bytes_of (variables_of_block program m.head.number) in
+    let held = held_block program.variables m.head.number m.known m.own in
+    let count = held.few in
+    let n = held_bytes image_parts (variables_of_block program m.head.number) in
     record {
       kind = kind;
       code = refl;
@@ -317,25 +286,27 @@ main_words {program} m input acts =
       level = refl;
       program = refl;
       parts = refl;
+      keeper = refl;
       bare = ap parameters_in found;
       made = refl;
-      plain = plain.plain;
+      any = held.any;
       few = serials_enough program m.head.number m.known;
       tabled = has_table program m.head m.known;
       room = room_fewer (surroundings_for program input acts) (main_begun m input acts)
           (main_layer m input acts) [] (fixed_size m.head.level 0) n (n + spare) (omega arith)
           (main_spare m input acts);
+      serials = omega (arith, count);
     }
 
 pub main_all :
     {program : Y.Program} (m : Main program) (input : List ℕ) (acts : ℕ) →
     AreAll (surroundings_for program input acts)
     (main_for m input acts)
-    (start_for program input acts) no_numbers (words_in (environment_for program m.head))
+    (start_for program input acts) no_numbers (held_in (environment_for program m.head))
 main_all {program} m input acts =
-    all_words (surroundings_for program input acts)
+    all_held (surroundings_for program input acts)
     (main_for m input acts)
-    (start_for program input acts) no_numbers (main_words m input acts)
+    (start_for program input acts) no_numbers (main_areas m input acts)
 
 abbrev pub block_for : {program : Y.Program} → Main program → (input : List ℕ) → (acts : ℕ) → Block
 block_for {program} m input acts =
@@ -351,9 +322,9 @@ pub main_number :
     {program : Y.Program} (m : Main program) (input : List ℕ) (acts : ℕ) (x : Spot) →
     IsOwnWord (main_for m input acts) x → IsBegun (block_for m input acts) → IsNumber (block_for m input acts) x
 main_number {program} m input acts x own b =
-    own_word (surroundings_for program input acts) (linked_code (code_for program)) (main_for m input acts)
-    (start_for program input acts) (start_for program input acts) no_numbers x
-    (record { high = omega arith; inside = omega arith }) (main_words m input acts, main_all m input acts) own b
+    held_word (surroundings_for program input acts) (linked_code (code_for program)) (main_for m input acts)
+    (start_for program input acts) no_numbers x (record { high = omega arith; inside = omega arith })
+    (main_areas m input acts) own b
 
 -- and each array an array of it
 pub main_array :
@@ -361,9 +332,9 @@ pub main_array :
     IsOwnArray (main_for m input acts) x → IsBegun (block_for m input acts) →
     IsArray (block_for m input acts) x (own_bounds (main_for m input acts) x)
 main_array {program} m input acts x own b =
-    own_array (surroundings_for program input acts) (linked_code (code_for program)) (main_for m input acts)
-    (start_for program input acts) (start_for program input acts) no_numbers x
-    (record { high = omega arith; inside = omega arith }) (main_words m input acts, main_all m input acts) own b
+    held_array (surroundings_for program input acts) (linked_code (code_for program)) (main_for m input acts)
+    (start_for program input acts) no_numbers x (record { high = omega arith; inside = omega arith })
+    (main_areas m input acts) own b
 
 -- and each scalar of fewer bits one of it
 pub main_narrow :
@@ -371,9 +342,27 @@ pub main_narrow :
     IsOwnNarrow (main_for m input acts) x → IsBegun (block_for m input acts) →
     IsScalar (block_for m input acts) x (own_type (main_for m input acts) x)
 main_narrow {program} m input acts x own b =
-    own_narrow (surroundings_for program input acts) (linked_code (code_for program)) (main_for m input acts)
-    (start_for program input acts) (start_for program input acts) no_numbers x
-    (record { high = omega arith; inside = omega arith }) (main_words m input acts, main_all m input acts) own b
+    held_narrow (surroundings_for program input acts) (linked_code (code_for program)) (main_for m input acts)
+    (start_for program input acts) no_numbers x (record { high = omega arith; inside = omega arith })
+    (main_areas m input acts) own b
+
+-- and each pointer and area is known there
+pub main_pointer :
+    {program : Y.Program} (m : Main program) (input : List ℕ) (acts : ℕ) (x : Spot) →
+    IsOwnPointer (main_for m input acts) x → IsBegun (block_for m input acts) →
+    IsKnown (block_for m input acts) x pointer_declared
+main_pointer {program} m input acts x own b =
+    held_pointer (surroundings_for program input acts) (linked_code (code_for program)) (main_for m input acts)
+    (start_for program input acts) no_numbers x (record { high = omega arith; inside = omega arith })
+    (main_areas m input acts) own b
+
+pub main_area :
+    {program : Y.Program} (m : Main program) (input : List ℕ) (acts : ℕ) (x : Spot) →
+    IsOwnArea (main_for m input acts) x → IsBegun (block_for m input acts) → HasArea (block_for m input acts) x
+main_area {program} m input acts x own b =
+    held_area (surroundings_for program input acts) (linked_code (code_for program)) (main_for m input acts)
+    (start_for program input acts) no_numbers x (record { high = omega arith; inside = omega arith })
+    (main_areas m input acts) own b
 
 -- what the program tells of its static data is told there
 pub main_told :

@@ -8,6 +8,7 @@ use Rattle.pli_meaning.specs.DeclaredShapes.{shape_of, variables_of_block}
 use Rattle.pli_meaning.specs.Executing.{begun, entered, labels_in}
 use Rattle.pli_meaning.specs.Raising.{Around, Entry, at_line}
 use Rattle.pli_meaning.specs.StorageState.{automatic_in_use, force, most_activations, most_automatic}
+use Rattle.pli_serving.specs.ServiceState as S
 use Rattle.pli_coding.specs.Environments.{Environment, block_around, none_taken}
 use Rattle.pli_coding.specs.Frames.{result}
 use Rattle.pli_coding.specs.Images.{linked_code}
@@ -29,8 +30,10 @@ use Rattle.program_places.specs.Placed.{Placed}
 use Rattle.program_places.specs.Programs.{code_for, entry_for, environment_for, links_for, procedure_for}
 use Rattle.program_runs.specs.Calls.{Callee, begun_at, left_over}
 use Rattle.program_runs.specs.Procedures.{Procedure, block_of, layer_for}
-use Rattle.program_runs.specs.Statements.{Block, EachDoes, IsAmong, IsBegun}
+use Rattle.program_runs.specs.Statements.{Block, EachDoes, IsAmong, IsBegun, with_texts}
+use Rattle.program_runs.proofs.Waiting.{begun_waits}
 use Rattle.expression_runs.specs.Variables.{IsNumber, Spot}
+use Rattle.text_runs.proofs.Waiting.{number_waits}
 use Rattle.element_runs.specs.Arrays.{IsArray}
 use Rattle.scalar_runs.specs.Scalars.{IsScalar}
 use Rattle.function_runs.specs.Functions.{function_entry}
@@ -39,12 +42,17 @@ use Rattle.counter_runs.proofs.Known.{array_told, number_told}
 use Rattle.counter_runs.proofs.Words.{begun_telling}
 use Rattle.block_headlines.specs.Constants.{IsOf}
 use Rattle.nested_calls.specs.Nested.{IsNested}
+use Rattle.variable_runs.specs.Known.{IsKnown}
+use Rattle.area_runs.specs.Allocations.{HasArea}
+use Rattle.area_runs.specs.Based.{pointer_declared}
 use Rattle.number_runs.specs.Knowledge.{KnowsGivenCalls}
+use Rattle.number_runs.specs.Numbers.{is_area_known, is_pointer_known}
 use Rattle.number_runs.specs.Numbers.{bounds_known, is_array_known, is_known, is_narrow_known, is_received, type_known}
 use Rattle.number_runs.proofs.Narrow.{narrow_told}
 use Rattle.number_runs.specs.Statements.{are_statements, statements_need, statements_set}
 use Rattle.number_runs.specs.Variables.{AreTabled}
 use Rattle.number_runs.proofs.Received.{parameter_told}
+use Rattle.number_runs.proofs.Waiting.{array_waits, narrow_waits, parameter_waits}
 use Rattle.number_headlines.specs.Programs.{most_waiting, scope_of}
 use Rattle.number_headlines.proofs.Mains.{Main, most_for, surroundings_for}
 
@@ -63,6 +71,10 @@ abbrev pub with_layers : (List Layer → List Layer) → Block → Block
 with_layers layers k =
     record k { first = record k.first { control = record k.first.control { layers = layers k.first.control.layers } } }
 
+-- or with other texts that wait there
+abbrev pub with_entries : (List S.Entry → List S.Entry) → Block → Block
+with_entries texts k = record k { first = with_texts (texts k.first.control.entries) k.first }
+
 -- ---- as it is called
 
 -- with what it is entered, the layer with which it begins, the indices of its call, of its first statement and of its
@@ -80,6 +92,7 @@ pub record Running : Type 0 where
   pub numbers : ℕ → ℕ
   pub made : Point
   pub layers : List Layer → List Layer
+  pub texts : List S.Entry → List S.Entry
 
 -- blocks may be entered so many deep inside it
 abbrev pub around_for : Y.Program → (more : ℕ) → Around
@@ -88,7 +101,8 @@ around_for program more = record { program = program; enter = entered program mo
 abbrev pub block_of_run :
     Y.Program → (input : List ℕ) → (acts : ℕ) → (valued : Bool) → (more : ℕ) → Running → Block
 block_of_run program input acts valued more a =
-    with_layers a.layers
+    with_entries a.texts
+    (with_layers a.layers
     (record {
       call = record {
         surroundings = surroundings_for program input acts;
@@ -106,7 +120,7 @@ block_of_run program input acts valued more a =
       around = at_line (around_for program more) a.head.line;
       registers = (procedure_for program a.head a.body).saved;
       outers = [];
-    })
+    }))
 
 -- one without a parameter
 abbrev pub run_of : (valued : Bool) → Surroundings → Callee → (index : ℕ) → Point → (numbers : ℕ → ℕ) → Running
@@ -123,6 +137,7 @@ run_of valued w c index p numbers =
       numbers = numbers;
       made = c.made (begun_at w c p numbers);
       layers = λ ls. ls;
+      texts = λ es. es;
     }
 
 -- ---- what is known there
@@ -167,25 +182,25 @@ pub record IsRunning {program : Y.Program} (m : Main program) (input : List ℕ)
         Placed (links_for program) (linked_code (code_for program)) a.index
         (stmts_code (environment_for program a.head) none_taken a.body)
     pub statements :
-        are_statements (scope_of m.short program m.called a.head a.body) valued (labels_in a.body ++ []) a.body ≡ true
+        are_statements (scope_of program m.called a.head a.body) valued (labels_in a.body ++ []) a.body ≡ true
     pub fits : statements_need a.body ≤ held_registers
     pub waiting : statements_set a.body ≤ most_waiting
     pub begun : IsBegun (block_of_run program input acts valued more a)
     pub enough : acts < more + (block_of_run program input acts valued more a).first.state.world.acts
     pub nested : IsNested (block_of_run program input acts valued more a)
     pub variables :
-        (x : Spot) → is_known (scope_of m.short program m.called a.head a.body) x ≡ true →
+        (x : Spot) → is_known (scope_of program m.called a.head a.body) x ≡ true →
         IsNumber (block_of_run program input acts valued more a) x
     pub arrays :
-        (x : Spot) → is_array_known (scope_of m.short program m.called a.head a.body) x ≡ true →
+        (x : Spot) → is_array_known (scope_of program m.called a.head a.body) x ≡ true →
         IsArray (block_of_run program input acts valued more a) x
-        (bounds_known (scope_of m.short program m.called a.head a.body) x)
+        (bounds_known (scope_of program m.called a.head a.body) x)
     pub narrows :
-        (x : Spot) → is_narrow_known (scope_of m.short program m.called a.head a.body) x ≡ true →
+        (x : Spot) → is_narrow_known (scope_of program m.called a.head a.body) x ≡ true →
         IsScalar (block_of_run program input acts valued more a) x
-        (type_known (scope_of m.short program m.called a.head a.body) x)
+        (type_known (scope_of program m.called a.head a.body) x)
     pub parameters :
-        (x : Spot) → is_received (scope_of m.short program m.called a.head a.body) x ≡ true →
+        (x : Spot) → is_received (scope_of program m.called a.head a.body) x ≡ true →
         IsParameter (block_of_run program input acts valued more a) x
     pub unraised :
         (c : Condition) → IsSystem (force (block_of_run program input acts valued more a).first.state.activations c)
@@ -197,13 +212,26 @@ pub record IsRunning {program : Y.Program} (m : Main program) (input : List ℕ)
     pub tabled : HasTable program (block_of_run program input acts valued more a).first
     pub depth : HasDepth (block_of_run program input acts valued more a).first blocks
 
--- where it was entered just now: its frame has the words that its loops set aside, and nothing waits in them
+-- one of its pointers: data begin behind the code
+pub record IsPointing (program : Y.Program) (k : Block) (head : Y.BlockHead) (x : Spot) : Type 0 where
+  pub known : IsKnown k x pointer_declared
+  pub own : x.level ≡ head.level
+  pub low : 4 * length (linked_code (code_for program)) ≤ k.first.places.low
+
+-- where it was entered just now: its frame has the words that its loops set aside, and nothing waits in them; and its
+-- pointers and areas are known
 pub record IsEntered {program : Y.Program} (m : Main program) (input : List ℕ) (acts : ℕ) (valued : Bool) (more : ℕ)
     (a : Running) (blocks : ℕ) : Type 0
   where
     pub running : IsRunning m input acts valued more a blocks
     pub words : running.free.layer.words ≡ statements_set a.body
     pub clear : with_waits (λ n. None) running.free.layer ≡ running.free.layer
+    pub pointers :
+        (x : Spot) → is_pointer_known (scope_of program m.called a.head a.body) x ≡ true →
+        IsPointing program (block_of_run program input acts valued more a) a.head x
+    pub areas :
+        (x : Spot) → is_area_known (scope_of program m.called a.head a.body) x ≡ true →
+        HasArea (block_of_run program input acts valued more a) x
 
 -- the statements of each block that may be entered so many deep do what they mean
 abbrev pub EachBody : {program : Y.Program} → Main program → (input : List ℕ) → (acts more : ℕ) → Type 0
@@ -211,13 +239,13 @@ EachBody {program} m input acts more =
     (valued : Bool) (a : Running) (blocks : ℕ) → IsEntered m input acts valued more a blocks →
     EachDoes (block_of_run program input acts valued more a) (labels_in a.body ++ []) a.body a.index left_over
 
--- and so do the calls with an argument in a block, where nothing waits
+-- and so do the calls with arguments in a block
 abbrev pub EachGiven : {program : Y.Program} → Main program → (input : List ℕ) → (acts : ℕ) → (valued : Bool) →
-    (more : ℕ) → Running → Type 0
-EachGiven {program} m input acts valued more a =
-    (scope_of m.short program m.called a.head a.body).gives ≡ true →
-    KnowsGivenCalls (scope_of m.short program m.called a.head a.body) (block_of_run program input acts valued more a)
-    (labels_in a.body ++ []) (most_for program) left_over
+    (more : ℕ) → Running → Layer → List Layer → Type 0
+EachGiven {program} m input acts valued more a φ φs =
+    (scope_of program m.called a.head a.body).gives ≡ true →
+    KnowsGivenCalls (scope_of program m.called a.head a.body) (block_of_run program input acts valued more a)
+    φ φs (labels_in a.body ++ []) (most_for program) left_over
 
 -- at each of its points there is as much room
 pub free_among :
@@ -284,10 +312,10 @@ told_running {program} {m} {input} {acts} {valued} {more} {a} {blocks} h waits =
       nested = record { own = h.nested.own; few = h.nested.few; some = h.nested.some; same = h.nested.same };
       variables = λ x is. number_told k φ φs waits free.newest x (h.variables x is);
       arrays = λ x is.
-          array_told k φ φs waits free.newest x (bounds_known (scope_of m.short program m.called a.head a.body) x)
+          array_told k φ φs waits free.newest x (bounds_known (scope_of program m.called a.head a.body) x)
           (h.arrays x is);
       narrows = λ x is.
-          narrow_told k φ φs waits free.newest x (type_known (scope_of m.short program m.called a.head a.body) x)
+          narrow_told k φ φs waits free.newest x (type_known (scope_of program m.called a.head a.body) x)
           (h.narrows x is);
       parameters = λ x is. parameter_told k φ φs waits free.newest x (h.parameters x is);
       unraised = h.unraised;
@@ -297,6 +325,55 @@ told_running {program} {m} {input} {acts} {valued} {more} {a} {blocks} h waits =
         layer = with_waits waits φ;
         below = φs;
         newest = refl;
+        even = free.even;
+        under = free.under;
+        low = free.low;
+        used = free.used;
+        fits = free.fits;
+      };
+      tabled = h.tabled;
+      depth = record { some = h.depth.some; all = h.depth.all };
+    }
+
+-- ---- while texts wait on their stack
+
+abbrev pub waited_run : Running → List S.Entry → Running
+waited_run a entries = record a { texts = λ es. entries ++ a.texts es }
+
+-- as much is known of it
+pub waited_running :
+    {program : Y.Program} {m : Main program} {input : List ℕ} {acts : ℕ} {valued : Bool} {more : ℕ} {a : Running}
+    {blocks : ℕ} (h : IsRunning m input acts valued more a blocks) (entries : List S.Entry) →
+    IsRunning m input acts valued more (waited_run a entries) blocks
+waited_running {program} {m} {input} {acts} {valued} {more} {a} {blocks} h entries =
+    let k = block_of_run program input acts valued more a in
+    let s = scope_of program m.called a.head a.body in
+    let free = h.free in
+    record {
+      own = h.own;
+      shallow = h.shallow;
+      kind = h.kind;
+      level = h.level;
+      saved = h.saved;
+      ends = h.ends;
+      placed = h.placed;
+      statements = h.statements;
+      fits = h.fits;
+      waiting = h.waiting;
+      begun = begun_waits k entries h.begun;
+      enough = h.enough;
+      nested = record { own = h.nested.own; few = h.nested.few; some = h.nested.some; same = h.nested.same };
+      variables = λ x is. number_waits k entries x (h.variables x is);
+      arrays = λ x is. array_waits k entries x (bounds_known s x) (h.arrays x is);
+      narrows = λ x is. narrow_waits k entries x (type_known s x) (h.narrows x is);
+      parameters = λ x is. parameter_waits k entries x (h.parameters x is);
+      unraised = h.unraised;
+      idle = h.idle;
+      told = record { code = h.told.code; links = h.told.links; constants = h.told.constants };
+      free = record {
+        layer = free.layer;
+        below = free.below;
+        newest = free.newest;
         even = free.even;
         under = free.under;
         low = free.low;

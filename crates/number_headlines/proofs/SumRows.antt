@@ -28,7 +28,7 @@ use Rattle.argument_runs.specs.Parameters.{parameter, parameter_declared}
 use Rattle.pli_headline.specs.Headline.{FitsMemory, parts}
 use Rattle.number_headlines.specs.SumRows.{head_at, root_spot, square_body, square_function, square_spot, sum_body}
 use Rattle.number_headlines.specs.SumRows.{sum_formats, sum_main, sum_program, sum_spot}
-use Rattle.number_headlines.specs.Headlines.{IsGivenProgram}
+use Rattle.number_headlines.specs.Headlines.{IsNumberProgram}
 
 -- ---- it is well formed
 
@@ -362,7 +362,7 @@ sum_well = record {
 
 -- ---- it is of the class
 
-pub sum_program_is : IsGivenProgram sum_program
+pub sum_program_is : IsNumberProgram sum_program
 sum_program_is = record { well_formed = sum_well; numbers = refl }
 
 pub sum_fits : FitsMemory (picture_of parts sum_program)

@@ -1,21 +1,26 @@
 -- The table of a program whose variables are all FIXED BINARY(31), scalars and arrays, and parameters: each signature
 -- is there once, and its number leads to it.
 use Rattle.std.proofs.Common.{◌≡◌, ◌⊎◌, inl, inr, ℕ, zero, suc, ◌*◌, ◌<◌, ◌≤◌, List, [], ◌∷◌, ◌++◌, length, Bool}
-use Rattle.std.proofs.Common.{true, false, map, refl, sym, subst, arith, rules}
-use Rattle.std.specs.Prelude.{◌&&◌, ◌||◌, nat_le, nat_lt, slice_get, unwrap_or, if◌then◌else◌}
+use Rattle.std.proofs.Common.{true, false, map, refl, sym, ap, ◌∙◌, subst, arith, rules, Some}
+use Rattle.std.specs.Prelude.{◌%◌, ◌^◌, ◌&&◌, ◌||◌, ◌==◌, nat_le, nat_lt, pos, slice_get, unwrap_or, if◌then◌else◌}
+use Rattle.std.specs.Prelude.{⊤}
 use Rattle.std.specs.List.{flat_map}
-use Rattle.std.proofs.lemmas.Bool.{and_from, and_parts, leb-true, ltb-true, or_cases}
-use Rattle.rv_meaning.specs.Tables.{AreSignatures, TableSignature}
+use Rattle.std.proofs.lemmas.Bool.{and_from, and_parts, eq-eqb, le-leb, leb-true, ltb-true, or_cases}
+use Rattle.rv_meaning.specs.Tables.{AreSignatures, IsSignature, TableSignature, run_time_size, size_fits}
+use Rattle.rv_meaning.specs.declared.image.TableKind.TheVariants as K
 use Rattle.run_steps.proofs.Numbers.{word_small}
 use Rattle.pli_typing.specs.Signatures.{Bounds}
 use Rattle.pli_typing.specs.TypedTree as Y
-use Rattle.pli_meaning.specs.DeclaredShapes.{variables_of_block}
-use Rattle.pli_serving.specs.Templates.{template_of}
+use Rattle.pli_meaning.specs.DeclaredShapes.{variables_of_block, shape_of}
+use Rattle.pli_meaning.specs.Texts.{most_text}
+use Rattle.pli_serving.specs.Templates.{template_of, shape_at}
+use Rattle.pli_meaning.specs.Contents.{Shape}
 use Rattle.pli_coding.specs.Environments.{Environment}
-use Rattle.pli_coding.specs.SignatureTable.{number_in_table, signature_of, table_of, with_signatures}
+use Rattle.pli_coding.specs.SignatureTable.{capacity_size, number_in_table, signature_of, table_of, with_signatures}
 use Rattle.well_formed_trees.specs.Every.{Every}
+use Rattle.storage_relation.proofs.Holders.{eqb-other}
 use Rattle.storage_relation.specs.Tables.{AreRuled}
-use Rattle.pli_headline.specs.ProvedSoFar.{IsScalar, Kind}
+use Rattle.pli_headline.specs.ProvedSoFar.{IsScalar, Kind, text_leaf}
 use Rattle.pli_headline.proofs.ArraySignatures.{array_kept}
 use Rattle.pli_headline.proofs.PlainNumbers.{Numbered, numbered_shape}
 use Rattle.pli_headline.proofs.PlainSignatures.{HasAll, HasSignature, kind_signature}
@@ -28,31 +33,37 @@ use Rattle.element_runs.specs.Arrays.{IsBounds, array_declared}
 use Rattle.scalar_runs.specs.Scalars.{scalar_declared}
 use Rattle.number_runs.specs.Narrow.{is_narrow_type}
 use Rattle.number_runs.specs.Numbers.{is_parameter}
-use Rattle.number_runs.specs.Variables.{AreTabled, IsTabled, are_known, are_plain, bytes_of, is_declared}
+use Rattle.number_runs.specs.Variables.{AreTabled, IsTabled, are_any, are_known, are_plain, bytes_of, is_any}
+use Rattle.number_runs.specs.Variables.{is_declared}
 use Rattle.number_runs.specs.Variables.{variable_bytes}
-use Rattle.number_runs.proofs.Declared.{of_declared, sized}
+use Rattle.area_runs.specs.Based.{based_declared, pointer_declared}
+use Rattle.number_runs.proofs.Areas.{capacity_in}
+use Rattle.number_runs.proofs.Based.{area_declared}
+use Rattle.number_runs.proofs.Declared.{area_takes, of_any, of_declared, sized}
 use Rattle.number_runs.proofs.Narrow.{by_narrow}
-use Rattle.number_runs.proofs.Takes.{plain_known}
+use Rattle.number_runs.proofs.BlocksTaken.{plain_known}
 use Rattle.number_runs.proofs.Variables.{parameter_declared_is}
-use Rattle.number_headlines.specs.Programs.{are_all_known, are_all_plain, are_blocks_known, are_blocks_plain}
-use Rattle.number_headlines.specs.Programs.{are_single, most_bytes, most_signatures, most_words, serials_for}
+use Rattle.number_runs.specs.Areas.{held_bytes}
+use Rattle.pli_headline.specs.Headline.{parts}
+use Rattle.number_headlines.specs.Programs.{are_all_known, are_all_plain, are_blocks_known, are_blocks_plain, are_held}
+use Rattle.number_headlines.specs.Programs.{most_bytes, most_signatures, most_words}
 
 -- ---- the variables of each block
 
--- a variable that a block makes, or a parameter
-one_of : (d : Y.DeclaredVariable) → (is_declared d || is_parameter d) ≡ true →
-    (is_declared d ≡ true) ⊎ (is_parameter d ≡ true)
-one_of d h = or_cases (is_declared d) (is_parameter d) h
+-- a variable of a block, or a parameter
+one_of : (d : Y.DeclaredVariable) → (is_any d || is_parameter d) ≡ true → (is_any d ≡ true) ⊎ (is_parameter d ≡ true)
+one_of d h = or_cases (is_any d) (is_parameter d) h
 
-takes_some : (d : Y.DeclaredVariable) → (is_declared d ≡ true) ⊎ (is_parameter d ≡ true) → 32 ≤ variable_bytes d
-takes_some d (inl h) = (sized d h).some
+takes_some : (d : Y.DeclaredVariable) → (is_any d ≡ true) ⊎ (is_parameter d ≡ true) → 32 ≤ variable_bytes d
+takes_some d (inl h) =
+    of_any (λ d'. 32 ≤ variable_bytes d') (omega arith) (λ n some few. area_takes n some) d (λ is. (sized d is).some) h
 takes_some d (inr h) = subst (λ d'. 32 ≤ variable_bytes d') (sym (parameter_declared_is d h)) (omega arith)
 
 -- so many bytes hold no more variables than that
 few_variables : (ds : List Y.DeclaredVariable) → are_known ds ≡ true → 32 * length ds ≤ bytes_of ds
 few_variables [] h = omega arith
 few_variables (d ∷ ds) h =
-    let a = and_parts (is_declared d || is_parameter d) (are_known ds) h in
+    let a = and_parts (is_any d || is_parameter d) (are_known ds) h in
     let one = takes_some d (one_of d a.0) in
     let rest = few_variables ds a.1 in
     omega (arith, one, rest)
@@ -98,6 +109,20 @@ pub plain_block :
 plain_block vs n h plain =
     let b = block_known vs n h in record { plain = plain; room = b.room; few = b.few }
 
+-- with areas
+pub record IsHeldBlock (ds : List Y.DeclaredVariable) : Type 0 where
+  pub any : are_any ds ≡ true
+  pub room : held_bytes parts ds ≤ most_bytes
+  pub few : length ds ≤ most_words
+
+pub held_block :
+    (vs : List (List Y.DeclaredVariable)) (n : ℕ) → are_all_known vs ≡ true →
+    are_held (unwrap_or (slice_get vs n) []) ≡ true → IsHeldBlock (unwrap_or (slice_get vs n) [])
+held_block vs n h held =
+    let ds = unwrap_or (slice_get vs n) [] in
+    let a = and_parts (are_any ds) (nat_le (held_bytes parts ds) most_bytes) held in
+    record { any = a.0; room = leb-true (held_bytes parts ds) most_bytes a.1; few = (block_known vs n h).few }
+
 -- where each is plain
 
 plain_from :
@@ -135,31 +160,11 @@ block_plain vs n h =
 
 -- ---- serial numbers
 
-single_by :
-    (vs : List (List Y.DeclaredVariable)) (n : ℕ) → are_single vs ≡ true → length (unwrap_or (slice_get vs n) []) ≤ 1
-single_by [] n h = omega arith
-single_by (ds ∷ vs) zero h =
-    leb-true (length ds) 1 (and_parts (nat_le (length ds) 1) (are_single vs) h).0
-single_by (ds ∷ vs) (suc n) h = single_by vs n (and_parts (nat_le (length ds) 1) (are_single vs) h).1
-
--- an act pays for those of a block
+-- those of a block may come between two acts
 pub serials_enough :
     (program : Y.Program) (n : ℕ) → are_all_known program.variables ≡ true →
-    length (variables_of_block program n) ≤ serials_for program
-serials_enough program n h = by (are_single program.variables) refl
-  where
-    by :
-        (q : Bool) → are_single program.variables ≡ q →
-        length (variables_of_block program n) ≤ (if q then 1 else most_words)
-    by true e = single_by program.variables n e
-    by false e = (block_known program.variables n h).few
-
-pub some_serials : (program : Y.Program) → 1 ≤ serials_for program
-some_serials program = by (are_single program.variables)
-  where
-    by : (q : Bool) → 1 ≤ (if q then 1 else most_words)
-    by true = omega arith
-    by false = omega arith
+    length (variables_of_block program n) ≤ most_words
+serials_enough program n h = (block_known program.variables n h).few
 
 -- ---- the table
 
@@ -218,6 +223,10 @@ fixed_held p h =
     let few = ltb-true p 31 a.1 in
     (omega (arith, some), omega (arith, few))
 
+text_held : (varying : Bool) (n : ℕ) → 0 < n → n ≤ most_text → IsScalar (text_leaf varying n)
+text_held false n some few = (some, few)
+text_held true n some few = (some, few)
+
 narrow_numbered :
     (table : List TableSignature) (t : Y.LeafType) → IsScalar t → length table < most_signatures →
     HasSignature (kind_signature (narrow_kind t)) table → Numbered table (narrow_kind t)
@@ -226,6 +235,27 @@ narrow_numbered table t is few has =
     let stands = found_any (kind_signature k) table has in
     let most = place_below table (number_in_table (kind_signature k) table) (kind_signature k) stands in
     record { held = is; stands = stands; few = omega (arith, most, few) }
+
+-- a signature's shape is found by its number
+shape_placed :
+    (t : List TableSignature) (n : ℕ) (g : TableSignature) (s : Shape) → slice_get t n ≡ Some g →
+    shape_at (template_of g ∷ []) 0 ≡ Some s → shape_at (map template_of t) n ≡ Some s
+shape_placed [] n g s at is = absurd (cc at)
+shape_placed (u ∷ us) zero g s at is =
+    let e : u ≡ g = cc at in ap (λ v. shape_at (template_of v ∷ []) 0) e ∙ is
+shape_placed (u ∷ us) (suc n) g s at is = shape_placed us n g s at is
+
+other_tabled :
+    (e : Environment) (d : Y.DeclaredVariable) → shape_at (template_of (signature_of d) ∷ []) 0 ≡ Some (shape_of [] d) →
+    length e.table < most_signatures → HasSignature (signature_of d) e.table → IsTabled e (map template_of e.table) d
+other_tabled e d is few has =
+    let stands = found_any (signature_of d) e.table has in
+    let most = place_below e.table (number_in_table (signature_of d) e.table) (signature_of d) stands in
+    record {
+      small = omega (arith, most, few);
+      shape = shape_placed e.table (number_in_table (signature_of d) e.table) (signature_of d) (shape_of [] d) stands
+          is;
+    }
 
 one_tabled :
     (e : Environment) (d : Y.DeclaredVariable) → is_declared d ≡ true → length e.table < most_signatures →
@@ -250,13 +280,46 @@ one_tabled e d is few =
     (λ has.
     let n = narrow_numbered e.table Y.BitLeaf tt few has in
     let small = n.few in
-    record { small = omega (arith, small); shape = numbered_shape e.table (narrow_kind Y.BitLeaf) n }))
+    record { small = omega (arith, small); shape = numbered_shape e.table (narrow_kind Y.BitLeaf) n })
+    (λ v length some short has.
+    let t = text_leaf v length in
+    let n = narrow_numbered e.table t (text_held v length some short) few has in
+    let small = n.few in
+    record { small = omega (arith, small); shape = numbered_shape e.table (narrow_kind t) n }))
+    (λ has. other_tabled e pointer_declared refl few has)
     d is
 
-known_tabled :
-    (e : Environment) (d : Y.DeclaredVariable) → (is_declared d ≡ true) ⊎ (is_parameter d ≡ true) →
+-- an area's capacity is known before the program runs
+area_size : (n : ℕ) → n ≤ 2 ^ 20 → capacity_size (Y.ConstantExtent (pos n)) ≡ capacity_in n
+area_size n few =
+    ap (λ q. if q then capacity_in n else run_time_size) (le-leb (capacity_in n) (2 ^ 20) (omega (arith, few)))
+
+area_shaped :
+    (n : ℕ) → n ≤ 2 ^ 20 →
+    shape_at (template_of (signature_of (area_declared n)) ∷ []) 0 ≡ Some (shape_of [] (area_declared n))
+area_shaped n few =
+    let c = capacity_in n in
+    let known : (c == run_time_size) ≡ false = eqb-other c run_time_size (λ e. omega (arith, few, e)) in
+    ap (λ m. shape_at (template_of (record {
+      class = 0;
+      refer = 0;
+      leaves = record { kind = K.Area; size = m; pairs = [] } ∷ [];
+    }) ∷ []) 0) (area_size n few)
+    ∙ rw (known) refl
+
+any_tabled :
+    (e : Environment) (d : Y.DeclaredVariable) → is_any d ≡ true →
     length e.table < most_signatures → HasSignature (signature_of d) e.table → IsTabled e (map template_of e.table) d
-known_tabled e d (inl is) few has = one_tabled e d is few has
+any_tabled e d is few has =
+    of_any (λ d'. HasSignature (signature_of d') e.table → IsTabled e (map template_of e.table) d')
+    (λ has'. other_tabled e based_declared refl few has')
+    (λ n some less has'. other_tabled e (area_declared n) (area_shaped n less) few has') d
+    (λ one. λ has'. one_tabled e d one few has') is has
+
+known_tabled :
+    (e : Environment) (d : Y.DeclaredVariable) → (is_any d ≡ true) ⊎ (is_parameter d ≡ true) →
+    length e.table < most_signatures → HasSignature (signature_of d) e.table → IsTabled e (map template_of e.table) d
+known_tabled e d (inl is) few has = any_tabled e d is few has
 known_tabled e d (inr is) few has =
     let same = parameter_declared_is d is in
     let n = number_numbered e.table few (subst (λ d'. HasSignature (signature_of d') e.table) same has) in
@@ -269,7 +332,7 @@ all_tabled :
     HasAll ds e.table → AreTabled e (map template_of e.table) ds
 all_tabled e [] h few has = tt
 all_tabled e (d ∷ ds) h few has =
-    let a = and_parts (is_declared d || is_parameter d) (are_known ds) h in
+    let a = and_parts (is_any d || is_parameter d) (are_known ds) h in
     (known_tabled e d (one_of d a.0) few has.0, all_tabled e ds a.1 few has.1)
 
 -- the variables of a block in the table of their program
@@ -292,15 +355,57 @@ array_ruled b is = (
   ((word_small b.lower is.lower, word_small b.upper is.upper, tt), tt),
 )
 
+text_ruled :
+    (varying : Bool) (n : ℕ) → 0 < n → n ≤ most_text → IsRuled (scalar_declared (text_leaf varying n) [])
+text_ruled false n some few =
+    (array_kept (text_leaf false n) (text_held false n some few) [] tt (omega arith), (tt, tt))
+text_ruled true n some few =
+    (array_kept (text_leaf true n) (text_held true n some few) [] tt (omega arith), (tt, tt))
+
 narrow_ruled : (t : Y.LeafType) → is_narrow_type t ≡ true → IsRuled (scalar_declared t [])
 narrow_ruled t h =
     by_narrow (λ u. IsRuled (scalar_declared u []))
     (λ p is. (array_kept (Y.FixedLeaf p) (fixed_held p is) [] tt (omega arith), (tt, tt)))
-    (array_kept Y.BitLeaf tt [] tt (omega arith), (tt, tt)) t h
+    (array_kept Y.BitLeaf tt [] tt (omega arith), (tt, tt)) text_ruled t h
 
-known_ruled : (d : Y.DeclaredVariable) → (is_declared d ≡ true) ⊎ (is_parameter d ≡ true) → IsRuled d
+declared_ruled : (d : Y.DeclaredVariable) → is_declared d ≡ true → IsRuled d
+declared_ruled d h =
+    of_declared IsRuled (record { headed = search rules; leaved = search rules }, (tt, tt)) array_ruled narrow_ruled (
+      record {
+        headed = refl;
+        leaved = (record { sized = refl; few = omega arith; bounded = tt; placed = refl }, tt);
+      },
+      (tt, tt),
+    ) d h
+
+area_ruled : (n : ℕ) → n ≤ 2 ^ 20 → IsRuled (area_declared n)
+area_ruled n few =
+    let c = capacity_in n in
+    let even : c % 16 ≡ 0 = omega arith in
+    let fits : size_fits K.Area c ≡ true =
+    ap (λ q. (q && nat_le c (2 ^ 20)) || (c == run_time_size)) (eq-eqb (c % 16) 0 even)
+    ∙ ap (λ q. q || (c == run_time_size)) (le-leb c (2 ^ 20) (omega (arith, few))) in
+    subst (λ m. IsSignature (record {
+      class = 0;
+      refer = 0;
+      leaves = record { kind = K.Area; size = m; pairs = [] } ∷ [];
+    }) × (⊤ × ⊤)) (sym (area_size n few)) (
+      record {
+        headed = refl;
+        leaved = (record { sized = fits; few = omega arith; bounded = tt; placed = refl }, tt);
+      },
+      (tt, tt),
+    )
+
+known_ruled : (d : Y.DeclaredVariable) → (is_any d ≡ true) ⊎ (is_parameter d ≡ true) → IsRuled d
 known_ruled d (inl h) =
-    of_declared IsRuled (record { headed = search rules; leaved = search rules }, (tt, tt)) array_ruled narrow_ruled d h
+    of_any IsRuled (
+      record {
+        headed = refl;
+        leaved = (record { sized = refl; few = omega arith; bounded = tt; placed = refl }, tt);
+      },
+      (tt, tt),
+    ) (λ n some few. area_ruled n few) d (λ is. declared_ruled d is) h
 known_ruled d (inr h) =
     subst IsRuled (sym (parameter_declared_is d h))
     (record { headed = search rules; leaved = search rules }, (tt, tt))
@@ -308,7 +413,7 @@ known_ruled d (inr h) =
 each_ruled : (ds : List Y.DeclaredVariable) → are_known ds ≡ true → Every IsRuled ds
 each_ruled [] h = tt
 each_ruled (d ∷ ds) h =
-    let a = and_parts (is_declared d || is_parameter d) (are_known ds) h in
+    let a = and_parts (is_any d || is_parameter d) (are_known ds) h in
     (known_ruled d (one_of d a.0), each_ruled ds a.1)
 
 all_ruled :
@@ -324,16 +429,25 @@ rules_kept program h = table_ruled program (all_ruled program.variables (blocks_
 
 -- ---- none is STATIC
 
-known_unstatic : (d : Y.DeclaredVariable) → (is_declared d ≡ true) ⊎ (is_parameter d ≡ true) → IsUnstatic d
-known_unstatic d (inl h) =
+text_unstatic :
+    (varying : Bool) (n : ℕ) → 0 < n → n ≤ most_text → IsUnstatic (scalar_declared (text_leaf varying n) [])
+text_unstatic false n some few = (tt, refl)
+text_unstatic true n some few = (tt, refl)
+
+declared_unstatic : (d : Y.DeclaredVariable) → is_declared d ≡ true → IsUnstatic d
+declared_unstatic d h =
     of_declared IsUnstatic (tt, refl) (λ b is. (tt, refl))
-    (by_narrow (λ t. IsUnstatic (scalar_declared t [])) (λ p is. (tt, refl)) (tt, refl)) d h
+    (by_narrow (λ t. IsUnstatic (scalar_declared t [])) (λ p is. (tt, refl)) (tt, refl) text_unstatic) (tt, refl) d h
+
+known_unstatic : (d : Y.DeclaredVariable) → (is_any d ≡ true) ⊎ (is_parameter d ≡ true) → IsUnstatic d
+known_unstatic d (inl h) =
+    of_any IsUnstatic (tt, refl) (λ n some few. (tt, refl)) d (λ is. declared_unstatic d is) h
 known_unstatic d (inr h) = subst IsUnstatic (sym (parameter_declared_is d h)) (tt, refl)
 
 each_unstatic : (ds : List Y.DeclaredVariable) → are_known ds ≡ true → Every IsUnstatic ds
 each_unstatic [] h = tt
 each_unstatic (d ∷ ds) h =
-    let a = and_parts (is_declared d || is_parameter d) (are_known ds) h in
+    let a = and_parts (is_any d || is_parameter d) (are_known ds) h in
     (known_unstatic d (one_of d a.0), each_unstatic ds a.1)
 
 all_unstatic :

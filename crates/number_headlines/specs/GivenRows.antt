@@ -13,6 +13,7 @@ use Rattle.function_runs.specs.Returns.{return_of}
 use Rattle.argument_runs.specs.Parameters.{parameter, parameter_declared}
 use Rattle.reference_runs.specs.ParameterAssignments as P
 use Rattle.pli_headline.specs.Headline.{Headline, parts}
+use Rattle.list_calls.specs.Arguments.{ByValue}
 use Rattle.number_runs.specs.Knowledge.{given_number, given_statement}
 
 -- FACT: PROCEDURE (N) RETURNS(FIXED BINARY(31)); DECLARE N FIXED BINARY(31);
@@ -45,7 +46,8 @@ abbrev pub fact_body : Y.Stmts
 fact_body =
     Y.StmtThen []
     (Y.If (Y.NumbersCompared Y.IsLess fact_value (Y.NumberConstant 2)) (return_of (Y.NumberConstant 1) 4) 4)
-    (Y.StmtThen [] (return_of (Y.Calculated Y.Product fact_value (given_number 0 2 less_one)) 5) (Y.EndOfList []))
+    (Y.StmtThen [] (return_of (Y.Calculated Y.Product fact_value (given_number 0 2 (ByValue less_one ∷ []))) 5)
+    (Y.EndOfList []))
 
 abbrev pub tell_formats : T.Formats
 tell_formats = T.FormatThen (record { line = 9; column = 18 }) 1 (T.FixedFormat 4) T.NoFormat
@@ -61,8 +63,9 @@ tell_body =
 
 abbrev pub fact_main_body : Y.Stmts
 fact_main_body =
-    Y.StmtThen [] (assignment result_spot (given_number 0 2 (Y.NumberConstant 5)) 12)
-    (Y.StmtThen [] (given_statement 0 3 13 (Y.Calculated Y.Sum result_value (Y.NumberConstant 1))) (Y.EndOfList []))
+    Y.StmtThen [] (assignment result_spot (given_number 0 2 (ByValue (Y.NumberConstant 5) ∷ [])) 12)
+    (Y.StmtThen [] (given_statement 0 3 13 (ByValue (Y.Calculated Y.Sum result_value (Y.NumberConstant 1)) ∷ []))
+    (Y.EndOfList []))
 
 abbrev pub head_at : (number level line : ℕ) → Y.BlockHead
 head_at number level line = record { kind = Y.ProcedureBlock; number = number; level = level; line = line }

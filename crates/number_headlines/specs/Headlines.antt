@@ -5,8 +5,7 @@ use Rattle.well_formed_trees.specs.WellFormed.{IsWellFormed}
 use Rattle.pli_coding.specs.Images.{picture_of}
 use Rattle.pli_coding.specs.SignatureTable.{table_of}
 use Rattle.pli_headline.specs.Headline.{FitsMemory, Headline, parts}
-use Rattle.pli_headline.specs.Within.{HeadlineWithin}
-use Rattle.number_headlines.specs.Programs.{is_given_program, is_number_program, short_limit}
+use Rattle.number_headlines.specs.Programs.{is_number_program}
 
 -- as the tree of each accepted source is, and of the class
 pub record IsNumberProgram (program : Y.Program) : Type 0 where
@@ -17,13 +16,3 @@ abbrev pub NumberHeadlinesKept : Type 0
 NumberHeadlinesKept =
     (program : Y.Program) → IsNumberProgram program → FitsMemory (picture_of parts program) →
     Headline program (picture_of parts program) (table_of program)
-
--- and each whose calls have arguments keeps it for short runs
-pub record IsGivenProgram (program : Y.Program) : Type 0 where
-  pub well_formed : IsWellFormed program
-  pub numbers : is_given_program program ≡ true
-
-abbrev pub GivenHeadlinesKept : Type 0
-GivenHeadlinesKept =
-    (program : Y.Program) → IsGivenProgram program → FitsMemory (picture_of parts program) →
-    HeadlineWithin short_limit program (picture_of parts program) (table_of program)

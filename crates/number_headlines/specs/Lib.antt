@@ -1,6 +1,7 @@
 pub mod Programs
 pub mod Headlines
 pub mod Rows
+pub mod AlarmRows
 pub mod CallRows
 pub mod CountRows
 pub mod NestRows
@@ -9,3 +10,7 @@ pub mod ArrayRows
 pub mod GivenRows
 pub mod FlagRows
 pub mod SumRows
+pub mod GatheredRows
+pub mod TextRows
+pub mod AreaRows
+pub mod PowerRows

@@ -1,6 +1,6 @@
 -- Programs of FIXED BINARY(31) numbers, as a class that is computed from typed trees.
 use Rattle.std.specs.Prelude.{ℕ, zero, suc, ◌*◌, ◌^◌, ◌&&◌, ◌||◌, ◌++◌, ◌==◌, Bool, true, false, List, [], ◌∷◌, length}
-use Rattle.std.specs.Prelude.{nat_le, nat_lt, Option, None, Some, if◌then◌else◌}
+use Rattle.std.specs.Prelude.{nat_le, nat_lt, not, slice_get, Option, None, Some, if◌then◌else◌}
 use Rattle.std.specs.List.{flat_map, list_any}
 use Rattle.pli_typing.specs.TypedTree as Y
 use Rattle.pli_meaning.specs.DeclaredShapes.{head_of, procedure_numbered, variables_of_block}
@@ -10,9 +10,11 @@ use Rattle.pli_coding.specs.Frames.{parameters_of_block}
 use Rattle.pli_coding.specs.Registers.{held_registers}
 use Rattle.pli_coding.specs.SignatureTable.{with_signatures}
 use Rattle.program_places.specs.Programs.{environment_for}
-use Rattle.number_runs.specs.Numbers.{Scope, has_none, is_fixed, is_parameter, list_sets}
+use Rattle.number_runs.specs.Numbers.{Scope, has_none, is_fixed, is_parameter, is_parameter_if}
 use Rattle.number_runs.specs.Statements.{are_statements, statements_need, statements_set}
-use Rattle.number_runs.specs.Variables.{are_known, are_plain, bytes_of}
+use Rattle.number_runs.specs.Areas.{held_bytes}
+use Rattle.number_runs.specs.Variables.{are_any, are_known, are_plain, bytes_of}
+use Rattle.pli_headline.specs.Headline.{parts}
 
 -- ---- variables
 
@@ -38,15 +40,6 @@ abbrev pub are_all_known : List (List Y.DeclaredVariable) → Bool
 are_all_known all =
     nat_lt (length (with_signatures (flat_map (λ ds. ds) all) [])) most_signatures && are_blocks_known all
 
--- each block has one at most
-abbrev pub are_single : List (List Y.DeclaredVariable) → Bool
-are_single [] = true
-are_single (ds ∷ rest) = nat_le (length ds) 1 && are_single rest
-
--- so many serial numbers come with an act; where it is one, each has 8 bytes
-abbrev pub serials_for : Y.Program → ℕ
-serials_for program = if are_single program.variables then 1 else most_words
-
 -- ---- blocks around
 
 -- the one at each level up to that of a block's code
@@ -68,28 +61,48 @@ abbrev pub are_all_plain : List (List Y.DeclaredVariable) → Bool
 are_all_plain all =
     nat_lt (length (with_signatures (flat_map (λ ds. ds) all) [])) most_signatures && are_blocks_plain all
 
--- ---- parameters
+-- ---- parameters, by their places among the variables of a block
 
--- the first variable is the only parameter
-abbrev pub is_first_alone : List ℕ → Bool
-is_first_alone (n ∷ []) = n == 0
-is_first_alone _ = false
+-- each at another
+abbrev pub is_elsewhere : (index : ℕ) → List ℕ → Bool
+is_elsewhere index [] = true
+is_elsewhere index (n ∷ ns) = not (n == index) && is_elsewhere index ns
 
-abbrev pub has_parameters : (given : Bool) → List ℕ → Bool
-has_parameters false ns = has_none ns
-has_parameters true ns = is_first_alone ns
+abbrev pub are_apart : List ℕ → Bool
+are_apart [] = true
+are_apart (n ∷ ns) = is_elsewhere n ns && are_apart ns
 
--- a block makes its variables, or has the parameter alone
-abbrev pub are_own : (given : Bool) → List Y.DeclaredVariable → Bool
-are_own false ds = are_plain ds
-are_own true (d ∷ []) = is_parameter d
-are_own true _ = false
+-- each FIXED BINARY(31)
+abbrev pub are_parameters : List Y.DeclaredVariable → List ℕ → Bool
+are_parameters ds [] = true
+are_parameters ds (n ∷ ns) = is_parameter_if (slice_get ds n) && are_parameters ds ns
+
+-- so many stand first among the variables of a block
+abbrev pub received_in : List Y.DeclaredVariable → ℕ
+received_in [] = 0
+received_in (d ∷ ds) = if is_parameter d then suc (received_in ds) else 0
+
+-- and it makes those behind them
+abbrev pub beside_received : List Y.DeclaredVariable → List Y.DeclaredVariable
+beside_received [] = []
+beside_received (d ∷ ds) = if is_parameter d then beside_received ds else d ∷ ds
+
+-- as many as the language lets a procedure have
+abbrev pub most_received : ℕ
+most_received = 16
+
+-- a block makes its variables, behind its parameters
+abbrev pub are_own : (parameters : List ℕ) → List Y.DeclaredVariable → Bool
+are_own [] ds = are_plain ds
+are_own (n ∷ ns) ds =
+    (nat_le (length (n ∷ ns)) most_received && nat_le (length (n ∷ ns)) (received_in ds))
+    && (are_apart (n ∷ ns) && (are_parameters ds (n ∷ ns) && are_plain (beside_received ds)))
 
 -- the blocks whose parameters a block may name: itself
 abbrev pub receivers_of : Y.Program → Y.BlockHead → List BlockPlace
 receivers_of program head =
-    if is_first_alone (parameters_of_block program head.number)
-    then record { number = head.number; level = head.level } ∷ [] else []
+    if has_none (parameters_of_block program head.number) then []
+    else record { number = head.number; level = head.level } ∷ []
 
 -- ---- procedures
 
@@ -116,71 +129,80 @@ abbrev pub is_valued : Option Y.LeafType → Bool
 is_valued None = false
 is_valued (Some type) = true
 
--- a procedure that a block calls, with an argument or without: the block of a level around it declares that
+-- a procedure that a block calls with so many arguments: the block of a level around it declares that
 abbrev pub is_declared :
-    Y.Program → (caller : Y.BlockHead) → (given valued : Bool) → (level : ℕ) → Y.Procedure → Bool
-is_declared program caller given valued level p =
-    has_parameters given p.parameters
+    Y.Program → (caller : Y.BlockHead) → (count : ℕ) → (valued : Bool) → (level : ℕ) → Y.Procedure → Bool
+is_declared program caller count valued level p =
+    (length p.parameters == count)
     && (has_result valued p.result
     && (((head_of p.block).level == suc level)
     && (nat_le level caller.level
     && stand_alike (environment_for program caller) (environment_for program (head_of p.block)) level)))
 
 abbrev pub is_declared_if :
-    Y.Program → (caller : Y.BlockHead) → (given valued : Bool) → (level : ℕ) → Option Y.Procedure → Bool
-is_declared_if program caller given valued level None = false
-is_declared_if program caller given valued level (Some p) = is_declared program caller given valued level p
+    Y.Program → (caller : Y.BlockHead) → (count : ℕ) → (valued : Bool) → (level : ℕ) → Option Y.Procedure → Bool
+is_declared_if program caller count valued level None = false
+is_declared_if program caller count valued level (Some p) = is_declared program caller count valued level p
 
 -- one of these numbers finds it
 abbrev pub is_callable :
-    Y.Program → List ℕ → (caller : Y.BlockHead) → (given valued : Bool) → (level number : ℕ) → Bool
-is_callable program ns caller given valued level number =
+    Y.Program → List ℕ → (caller : Y.BlockHead) → (count : ℕ) → (valued : Bool) → (level number : ℕ) → Bool
+is_callable program ns caller count valued level number =
     list_any (λ n. n == number) ns
-    && is_declared_if program caller given valued level (procedure_numbered number program.procedures)
+    && is_declared_if program caller count valued level (procedure_numbered number program.procedures)
 
--- a block may name its own variables and parameter, and the variables of the blocks around it, and call these, with an
--- argument where its frame has words for the list, and serial numbers have 8 bytes: in short runs they do
-abbrev pub scope_of : (short : Bool) → Y.Program → List ℕ → Y.BlockHead → Y.Stmts → Scope
-scope_of short program ns head body =
+-- the blocks whose pointers and areas a block may name: itself, if it is the main procedure's
+abbrev pub pointers_of : Y.BlockHead → List BlockPlace
+pointers_of head =
+    if head.level == 0 then record { number = head.number; level = head.level } ∷ [] else []
+
+-- so many words of the frame hold what ALLOCATE hands over
+abbrev pub least_located : ℕ
+least_located = 2
+
+-- a block may name its own variables and parameters, and the variables of the blocks around it, and call these, with
+-- arguments
+abbrev pub scope_of : Y.Program → List ℕ → Y.BlockHead → Y.Stmts → Scope
+scope_of program ns head body =
     record {
       program = program;
       level = head.level;
       blocks = places_to (environment_for program head) head.level;
       receivers = receivers_of program head;
-      is_function = is_callable program ns head false true;
-      is_procedure = is_callable program ns head false false;
-      gives = (short || are_single program.variables) && nat_le list_sets (statements_set body);
-      is_given_function = is_callable program ns head true true;
-      is_given_procedure = is_callable program ns head true false;
+      is_function = is_callable program ns head 0 true;
+      is_procedure = is_callable program ns head 0 false;
+      gives = true;
+      is_given_function = λ count. is_callable program ns head count true;
+      is_given_procedure = λ count. is_callable program ns head count false;
+      locates = nat_le least_located (statements_set body);
+      pointers = pointers_of head;
       counts = true;
       puts = true;
       overflows = true;
       divides = true;
       narrows = true;
+      texts = true;
       elements = true;
       own = true;
       is_outer = λ level label. false;
+      signals = λ c. true;
     }
 
--- with a parameter or without
-abbrev pub is_inner_with : (short given : Bool) → Y.Program → List ℕ → Y.Procedure → Bool
-is_inner_with short given program ns p =
-    has_parameters given p.parameters
-    && (are_own given (variables_of_block program (head_of p.block).number)
-    && is_body (scope_of short program ns (head_of p.block) (body_of p.block)) (is_valued p.result) (body_of p.block))
+-- with parameters or without
+abbrev pub is_inner : Y.Program → List ℕ → Y.Procedure → Bool
+is_inner program ns p =
+    are_own p.parameters (variables_of_block program (head_of p.block).number)
+    && is_body (scope_of program ns (head_of p.block) (body_of p.block)) (is_valued p.result) (body_of p.block)
 
-abbrev pub is_inner : (short : Bool) → Y.Program → List ℕ → Y.Procedure → Bool
-is_inner short program ns p = is_inner_with short false program ns p || is_inner_with short true program ns p
-
-abbrev pub is_inner_if : (short : Bool) → Y.Program → List ℕ → Option Y.Procedure → Bool
-is_inner_if short program ns None = false
-is_inner_if short program ns (Some p) = is_inner short program ns p
+abbrev pub is_inner_if : Y.Program → List ℕ → Option Y.Procedure → Bool
+is_inner_if program ns None = false
+is_inner_if program ns (Some p) = is_inner program ns p
 
 -- each of these numbers finds one that calls those
-abbrev pub are_inner : (short : Bool) → Y.Program → (called : List ℕ) → List ℕ → Bool
-are_inner short program called [] = true
-are_inner short program called (n ∷ ns) =
-    is_inner_if short program called (procedure_numbered n program.procedures) && are_inner short program called ns
+abbrev pub are_inner : Y.Program → (called : List ℕ) → List ℕ → Bool
+are_inner program called [] = true
+are_inner program called (n ∷ ns) =
+    is_inner_if program called (procedure_numbered n program.procedures) && are_inner program called ns
 
 -- ---- programs
 
@@ -189,41 +211,37 @@ numbers_of [] = []
 numbers_of (p ∷ ps) = (head_of p.block).number ∷ numbers_of ps
 
 -- those that call only these
-abbrev pub kept_of : (short : Bool) → Y.Program → List ℕ → List Y.Procedure → List ℕ
-kept_of short program ns [] = []
-kept_of short program ns (p ∷ ps) =
-    if is_inner short program ns p then (head_of p.block).number ∷ kept_of short program ns ps
-    else kept_of short program ns ps
+abbrev pub kept_of : Y.Program → List ℕ → List Y.Procedure → List ℕ
+kept_of program ns [] = []
+kept_of program ns (p ∷ ps) =
+    if is_inner program ns p then (head_of p.block).number ∷ kept_of program ns ps
+    else kept_of program ns ps
 
 -- after as many rounds as there are procedures, those that call only one another
-abbrev pub closed_of : (short : Bool) → Y.Program → (rounds : ℕ) → List ℕ → List ℕ
-closed_of short program zero ns = ns
-closed_of short program (suc rounds) ns = closed_of short program rounds (kept_of short program ns program.procedures)
+abbrev pub closed_of : Y.Program → (rounds : ℕ) → List ℕ → List ℕ
+closed_of program zero ns = ns
+closed_of program (suc rounds) ns = closed_of program rounds (kept_of program ns program.procedures)
 
-abbrev pub callable_ones : (short : Bool) → Y.Program → List ℕ
-callable_ones short program = closed_of short program (length program.procedures) (numbers_of program.procedures)
+abbrev pub callable_ones : Y.Program → List ℕ
+callable_ones program = closed_of program (length program.procedures) (numbers_of program.procedures)
+
+-- the variables of the main procedure, areas among them
+abbrev pub are_held : List Y.DeclaredVariable → Bool
+are_held ds = are_any ds && nat_le (held_bytes parts ds) most_bytes
 
 -- the main procedure calls these, which call one another and themselves
-abbrev pub is_main : (short : Bool) → Y.Program → (called : List ℕ) → Y.Procedure → Bool
-is_main short program called p =
+abbrev pub is_main : Y.Program → (called : List ℕ) → Y.Procedure → Bool
+is_main program called p =
     has_none p.parameters
     && (has_result false p.result
-    && (are_plain (variables_of_block program (head_of p.block).number)
-    && (is_body (scope_of short program called (head_of p.block) (body_of p.block)) false (body_of p.block)
-    && are_inner short program called called)))
+    && (are_held (variables_of_block program (head_of p.block).number)
+    && (is_body (scope_of program called (head_of p.block) (body_of p.block)) false (body_of p.block)
+    && are_inner program called called)))
 
 -- the first one is the main procedure; what isn't called may be any
-abbrev pub has_main : (short : Bool) → Y.Program → List Y.Procedure → Bool
-has_main short program [] = false
-has_main short program (p ∷ ps) = is_main short program (callable_ones short program) p
+abbrev pub has_main : Y.Program → List Y.Procedure → Bool
+has_main program [] = false
+has_main program (p ∷ ps) = is_main program (callable_ones program) p
 
 abbrev pub is_number_program : Y.Program → Bool
-is_number_program program = are_all_known program.variables && has_main false program program.procedures
-
--- where calls may have arguments whatever variables there are, in short runs
-abbrev pub is_given_program : Y.Program → Bool
-is_given_program program = are_all_known program.variables && has_main true program program.procedures
-
--- of fewer instructions than that
-abbrev pub short_limit : ℕ
-short_limit = 2 ^ 51
+is_number_program program = are_all_known program.variables && has_main program program.procedures

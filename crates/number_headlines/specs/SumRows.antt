@@ -1,4 +1,4 @@
--- A worked row: a program with two variables and a function with a parameter, for short runs.
+-- A worked row: a program with two variables and a function with a parameter.
 use Rattle.std.specs.Prelude.{ℕ, ◌≡◌, List, [], ◌∷◌, Some, None}
 use Rattle.pli_language.specs.Tree as T
 use Rattle.pli_typing.specs.TypedTree as Y
@@ -10,10 +10,9 @@ use Rattle.expression_runs.specs.Assignments.{assignment}
 use Rattle.expression_runs.specs.Variables.{Spot, number_declared, whole}
 use Rattle.function_runs.specs.Returns.{return_of}
 use Rattle.argument_runs.specs.Parameters.{parameter, parameter_declared}
-use Rattle.pli_headline.specs.Headline.{parts}
-use Rattle.pli_headline.specs.Within.{HeadlineWithin}
+use Rattle.pli_headline.specs.Headline.{parts, Headline}
+use Rattle.list_calls.specs.Arguments.{ByValue}
 use Rattle.number_runs.specs.Knowledge.{given_number}
-use Rattle.number_headlines.specs.Programs.{short_limit}
 
 -- SQUARE: PROCEDURE (N) RETURNS(FIXED BINARY(31)); DECLARE N FIXED BINARY(31); RETURN (N * N); END SQUARE;
 -- DECLARE (X, Y) FIXED BINARY(31); X = 0; Y = 0; DO WHILE (X < 3); Y = Y + SQUARE(X + 1); X = X + 1; END;
@@ -46,7 +45,7 @@ square_body =
 
 abbrev pub sum_turns : Y.Stmts
 sum_turns =
-    Y.StmtThen [] (assignment sum_spot (Y.Calculated Y.Sum sum_value (given_number 0 2 next_root)) 8)
+    Y.StmtThen [] (assignment sum_spot (Y.Calculated Y.Sum sum_value (given_number 0 2 (ByValue next_root ∷ []))) 8)
     (Y.StmtThen [] (assignment root_spot next_root 9) (Y.EndOfList []))
 
 abbrev pub sum_formats : T.Formats
@@ -81,7 +80,7 @@ sum_program =
     }
 
 pub record SumKept : Type 0 where
-  pub headline : HeadlineWithin short_limit sum_program (picture_of parts sum_program) (table_of sum_program)
+  pub headline : Headline sum_program (picture_of parts sum_program) (table_of sum_program)
   -- 14 is written
   pub ends :
       (input : List ℕ) →

@@ -1,17 +1,22 @@
 // Laws of the definitions: each function's contract is one law, and calling it does nothing.
 
+ghost use Rattle.number_headlines.specs.AlarmRows.{AlarmKept};
+ghost use Rattle.number_headlines.specs.AreaRows.{GatherKept};
 ghost use Rattle.number_headlines.specs.ArrayRows.{SieveKept};
 ghost use Rattle.number_headlines.specs.CallRows.{CallingKept};
 ghost use Rattle.number_headlines.specs.CountRows.{CountingKept};
 ghost use Rattle.number_headlines.specs.FlagRows.{FlagKept};
+ghost use Rattle.number_headlines.specs.GatheredRows.{GatheredKept};
 ghost use Rattle.number_headlines.specs.GivenRows.{FactKept};
-ghost use Rattle.number_headlines.specs.Headlines.{GivenHeadlinesKept, NumberHeadlinesKept};
+ghost use Rattle.number_headlines.specs.Headlines.{NumberHeadlinesKept};
 ghost use Rattle.number_headlines.specs.NestRows.{NestKept};
+ghost use Rattle.number_headlines.specs.PowerRows.{PowerKept};
 ghost use Rattle.number_headlines.specs.PutRows.{SquaresKept};
 ghost use Rattle.number_headlines.specs.Rows.{TotalKept};
 ghost use Rattle.number_headlines.specs.SumRows.{SumKept};
+ghost use Rattle.number_headlines.specs.TextRows.{WordKept};
 
-use block_headlines::laws::{headlines_kept, short_headlines_kept};
+use block_headlines::laws::headlines_kept;
 use code_marks::laws::marked_once;
 use storage_relation::laws::table_differs;
 
@@ -24,18 +29,16 @@ pub fn number_headlines_kept()
     headlines_kept();
 }
 
-/// Each with arguments does for runs of fewer than 2^51 instructions, whatever variables its blocks have.
-pub fn given_headlines_kept()
-    ensures { GivenHeadlinesKept }
-{
-    marked_once();
-    table_differs();
-    short_headlines_kept();
-}
-
 /// A worked row: a loop with a choice, a program of the class.
 pub fn total_kept()
     ensures { TotalKept }
+{
+    number_headlines_kept();
+}
+
+/// A worked row: SIGNAL, which ends the run.
+pub fn alarm_kept()
+    ensures { AlarmKept }
 {
     number_headlines_kept();
 }
@@ -89,9 +92,38 @@ pub fn flag_kept()
     number_headlines_kept();
 }
 
-/// A worked row with two variables beside a function with a parameter, for short runs.
+/// A worked row with two variables beside a function with a parameter.
 pub fn sum_kept()
     ensures { SumKept }
 {
-    given_headlines_kept();
+    number_headlines_kept();
+}
+
+/// A worked row with lists of arguments: a function of two parameters is called in an argument of itself, in the turns
+/// of a loop that counts.
+pub fn gathered_kept()
+    ensures { GatheredKept }
+{
+    number_headlines_kept();
+}
+
+/// A worked row with texts: one grows in a loop, waits while a function runs, and is written with a number.
+pub fn word_kept()
+    ensures { WordKept }
+{
+    number_headlines_kept();
+}
+
+/// A worked row with an area: numbers are put into it by way of a pointer, summed and printed, and it is emptied.
+pub fn gather_kept()
+    ensures { GatherKept }
+{
+    number_headlines_kept();
+}
+
+/// A worked row with variables beside parameters: a function that raises a number to a power in a loop that counts.
+pub fn power_kept()
+    ensures { PowerKept }
+{
+    number_headlines_kept();
 }

@@ -7,7 +7,7 @@ use Rattle.expression_runs.specs.Variables.{Spot, whole}
 use Rattle.counter_runs.specs.Counts.{Counting, IsStep, count_of}
 use Rattle.counter_runs.proofs.StepConstants.{down_step, up_step}
 use Rattle.number_runs.specs.Counting.{is_count, is_counter, is_limit, is_start, is_step}
-use Rattle.number_runs.specs.Numbers.{Scope, is_known, is_number, is_variable, number_needs}
+use Rattle.number_runs.specs.Numbers.{Scope, is_known, is_number, is_variable, number_needs, number_sets}
 use Rattle.number_runs.proofs.Variables.{variable_is}
 
 -- ---- the variable
@@ -61,6 +61,7 @@ record HasStep (s : Scope) (x : Y.Number) : Type 0 where
   is : IsStep x by
   known : is_number s x ≡ true
   few : number_needs x ≤ 1
+  sets : number_sets x ≡ 0
 
 negative_is :
     (s : Scope) (x : Y.Number) → s.overflows ≡ true → is_step (Y.Signed Y.Negative x) ≡ true →
@@ -71,6 +72,7 @@ negative_is s (Y.NumberConstant n) may h =
       is = down_step n (ltb-true n (2 ^ 31) h);
       known = and_from s.overflows (nat_lt n (2 ^ 31)) may h;
       few = omega arith;
+      sets = refl;
     }
 negative_is s (Y.NumberIn r) may h = absurd (cc h)
 negative_is s (Y.NumberFrom c) may h = absurd (cc h)
@@ -94,7 +96,7 @@ negative_is s Y.OnCode may h = absurd (cc h)
 
 step_is : (s : Scope) (x : Y.Number) → s.overflows ≡ true → is_step x ≡ true → HasStep s x
 step_is s (Y.NumberConstant n) may h =
-    record { by = pos n; is = up_step n (ltb-true n (2 ^ 31) h); known = h; few = omega arith }
+    record { by = pos n; is = up_step n (ltb-true n (2 ^ 31) h); known = h; few = omega arith; sets = refl }
 step_is s (Y.Signed Y.Positive x) may h = absurd (cc h)
 step_is s (Y.Signed Y.Negative x) may h = negative_is s x may h
 step_is s (Y.NumberIn r) may h = absurd (cc h)
@@ -133,6 +135,7 @@ pub record IsCounting (s : Scope) (k : Y.Counter) (v : Y.Value) (o : Option Y.Nu
     pub step : IsStep x by
     pub step_known : is_number s x ≡ true
     pub step_few : number_needs x ≤ 1
+    pub step_sets : number_sets x ≡ 0
     pub endless : w ≡ None
     pub known : is_known s spot ≡ true
     pub first_known : is_number s first ≡ true
@@ -163,6 +166,7 @@ counting_is s k v o x None h =
       step = step'.is;
       step_known = step'.known;
       step_few = step'.few;
+      step_sets = step'.sets;
       endless = refl;
       known = spot'.known;
       first_known = first'.known;

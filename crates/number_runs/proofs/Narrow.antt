@@ -1,12 +1,14 @@
--- Scalars of fewer bits that the class admits: what is declared, references to them, and their types.
-use Rattle.std.proofs.Common.{◌≡◌, ℕ, List, [], ◌∷◌, Option, None, Some, true, refl, sym, ap, ◌∙◌}
+-- Scalars of other types that the class admits: what is declared, references to them, and their types.
+use Rattle.std.proofs.Common.{◌≡◌, ℕ, ◌<◌, ◌≤◌, List, [], ◌∷◌, Option, None, Some, true, false, refl, sym, ap, ◌∙◌}
 use Rattle.std.proofs.Common.{subst}
-use Rattle.std.specs.Prelude.{◌&&◌, ◌==◌, Bool}
-use Rattle.std.proofs.lemmas.Bool.{and_parts, eqb-true}
+use Rattle.std.specs.Prelude.{◌&&◌, ◌==◌, Bool, nat_le, nat_lt, negsuc, pos}
+use Rattle.std.proofs.lemmas.Bool.{and_parts, eqb-true, leb-true, ltb-true}
 use Rattle.std.specs.List.{list_any}
 use Rattle.pli_language.specs.Tree as T
 use Rattle.pli_typing.specs.TypedTree as Y
 use Rattle.pli_meaning.specs.DeclaredShapes.{declared_variable}
+use Rattle.pli_meaning.specs.Texts.{most_text}
+use Rattle.pli_headline.specs.ProvedSoFar.{text_leaf}
 use Rattle.activation_relation.specs.Layers.{Layer}
 use Rattle.program_runs.specs.Statements.{Block}
 use Rattle.expression_runs.specs.Laws.{Does}
@@ -17,10 +19,12 @@ use Rattle.variable_runs.specs.Known.{IsKnown}
 use Rattle.counter_runs.specs.Words.{telling}
 use Rattle.counter_runs.proofs.Known.{known_told}
 use Rattle.scalar_runs.specs.Scalars.{IsScalar, scalar_declared, scalar_leaf}
+use Rattle.text_values.specs.Variables.{IsText}
 use Rattle.scalar_runs.proofs.ScalarPoints.{bit_does, number_does}
 use Rattle.number_runs.specs.Knowledge.{KnowsNumbers}
 use Rattle.number_runs.specs.Narrow.{has_precision, is_bit, is_narrow, is_narrow_leaf, is_narrow_of, is_narrow_type}
-use Rattle.number_runs.specs.Narrow.{is_narrow_if, is_number_type, narrow_type, type_if, type_in}
+use Rattle.number_runs.specs.Narrow.{is_length, is_narrow_if, is_number_type, is_text_type, narrow_type, type_if}
+use Rattle.number_runs.specs.Narrow.{type_in}
 use Rattle.number_runs.specs.Numbers.{Scope, is_automatic, is_narrow_known, is_narrow_with, is_place}
 use Rattle.number_runs.specs.Numbers.{reference_needs, spot_of, type_known}
 use Rattle.number_runs.proofs.Variables.{automatic_is, part_is}
@@ -72,17 +76,57 @@ narrow_is d h = (declared_is d.class d.members d.leaves d.refer d.evaluations h)
 pub type_is_narrow : (d : Y.DeclaredVariable) → is_narrow d ≡ true → is_narrow_type (narrow_type d) ≡ true
 type_is_narrow d h = (declared_is d.class d.members d.leaves d.refer d.evaluations h).1
 
--- FIXED BINARY of 1 to 30 bits, or BIT(1)
+-- of a constant length
+pub record IsLength (size : Y.Extent) : Type 0 where
+  pub length : ℕ
+  pub is : size ≡ Y.ConstantExtent (pos length)
+  pub some : 0 < length
+  pub few : length ≤ most_text
+
+length_is : (size : Y.Extent) → is_length size ≡ true → IsLength size
+length_is (Y.ConstantExtent (pos n)) h =
+    let a = and_parts (nat_lt 0 n) (nat_le n most_text) h in
+    record { length = n; is = refl; some = ltb-true 0 n a.0; few = leb-true n most_text a.1 }
+length_is (Y.ConstantExtent (negsuc n)) h = absurd (cc h)
+length_is Y.StarExtent h = absurd (cc h)
+length_is Y.ReferExtent h = absurd (cc h)
+length_is (Y.EvaluatedExtent place) h = absurd (cc h)
+
+pub record IsTextType (t : Y.LeafType) : Type 0 where
+  pub varying : Bool
+  pub length : ℕ
+  pub is : t ≡ text_leaf varying length
+  pub some : 0 < length
+  pub few : length ≤ most_text
+
+pub text_type_is : (t : Y.LeafType) → is_text_type t ≡ true → IsTextType t
+text_type_is (Y.CharacterLeaf size) h =
+    let n = length_is size h in
+    record { varying = false; length = n.length; is = ap Y.CharacterLeaf n.is; some = n.some; few = n.few }
+text_type_is (Y.VaryingLeaf size) h =
+    let n = length_is size h in
+    record { varying = true; length = n.length; is = ap Y.VaryingLeaf n.is; some = n.some; few = n.few }
+text_type_is (Y.FixedLeaf precision) h = absurd (cc h)
+text_type_is Y.BitLeaf h = absurd (cc h)
+text_type_is Y.PointerLeaf h = absurd (cc h)
+text_type_is (Y.OffsetLeaf area) h = absurd (cc h)
+text_type_is (Y.AreaLeaf size) h = absurd (cc h)
+
+-- FIXED BINARY of 1 to 30 bits, BIT(1), or CHARACTER
 pub by_narrow :
     (P : Y.LeafType → Type 0) → ((precision : ℕ) → is_narrow_type (Y.FixedLeaf precision) ≡ true →
-    P (Y.FixedLeaf precision)) → P Y.BitLeaf → (t : Y.LeafType) → is_narrow_type t ≡ true → P t
-by_narrow P fixed bit (Y.FixedLeaf precision) h = fixed precision h
-by_narrow P fixed bit Y.BitLeaf h = bit
-by_narrow P fixed bit (Y.CharacterLeaf size) h = absurd (cc h)
-by_narrow P fixed bit (Y.VaryingLeaf size) h = absurd (cc h)
-by_narrow P fixed bit Y.PointerLeaf h = absurd (cc h)
-by_narrow P fixed bit (Y.OffsetLeaf area) h = absurd (cc h)
-by_narrow P fixed bit (Y.AreaLeaf size) h = absurd (cc h)
+    P (Y.FixedLeaf precision)) → P Y.BitLeaf →
+    ((varying : Bool) (length : ℕ) → 0 < length → length ≤ most_text → P (text_leaf varying length)) →
+    (t : Y.LeafType) → is_narrow_type t ≡ true → P t
+by_narrow P fixed bit text (Y.FixedLeaf precision) h = fixed precision h
+by_narrow P fixed bit text Y.BitLeaf h = bit
+by_narrow P fixed bit text (Y.CharacterLeaf size) h =
+    let t = text_type_is (Y.CharacterLeaf size) h in subst P (sym t.is) (text t.varying t.length t.some t.few)
+by_narrow P fixed bit text (Y.VaryingLeaf size) h =
+    let t = text_type_is (Y.VaryingLeaf size) h in subst P (sym t.is) (text t.varying t.length t.some t.few)
+by_narrow P fixed bit text Y.PointerLeaf h = absurd (cc h)
+by_narrow P fixed bit text (Y.OffsetLeaf area) h = absurd (cc h)
+by_narrow P fixed bit text (Y.AreaLeaf size) h = absurd (cc h)
 
 -- ---- references
 
@@ -190,3 +234,10 @@ flag_does s k r h is =
     (bit_does k w.spot h.begun
     (subst (λ u. IsScalar k.block w.spot u) (bit_is (type_known s w.spot) w.passes)
     (h.narrows w.may w.spot w.known)))
+
+-- one whose type is that of texts
+pub text_known :
+    (k : Block) (x : Spot) (t : Y.LeafType) (is : IsTextType t) → IsScalar k x t → IsText k x is.varying is.length
+text_known k x t is known =
+    let h = subst (λ u. IsScalar k x u) is.is known in
+    record { initial = h.initial; known = h.known; short = is.few }

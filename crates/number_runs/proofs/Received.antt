@@ -1,11 +1,14 @@
 -- A parameter of a block is one while words of its frame tell something, and while a place in a format list is in use.
-use Rattle.std.proofs.Common.{◌≡◌, ℕ, List, ◌∷◌, Option, sym, ap, ◌∙◌}
+use Rattle.std.proofs.Common.{◌≡◌, ℕ, List, [], ◌∷◌, Option, sym, ap, ◌∙◌}
 use Rattle.pli_serving.specs.ServiceState.{EditPlace}
 use Rattle.activation_relation.specs.FrameLaws.{with_waits}
-use Rattle.activation_relation.specs.Layers.{Layer}
+use Rattle.activation_relation.specs.Layers.{Layer, Point}
 use Rattle.program_runs.specs.Statements.{Block}
 use Rattle.expression_runs.specs.Variables.{Spot}
+use Rattle.argument_runs.specs.Lists.{with_list}
 use Rattle.argument_runs.specs.Parameters.{IsParameter}
+use Rattle.list_calls.specs.Arguments.{ByName, ByValue, Way}
+use Rattle.list_calls.specs.ListKnown.{AreStored, IsStored}
 use Rattle.counter_runs.specs.Words.{telling}
 use Rattle.counter_runs.proofs.Words.{begun_telling}
 use Rattle.edit_runs.specs.Edits.{placing}
@@ -90,3 +93,53 @@ parameter_placed k place x is =
       low = is.low;
       inside = is.inside;
     }
+
+-- ---- what has a name that is passed is stored whatever words tell
+
+one_told :
+    (waits : ℕ → Option ℕ) (φ : Layer) (φs : List Layer) (p : Point) (serial signature : ℕ) →
+    IsStored p serial signature → IsStored (with_list waits φ φs p) serial signature
+one_told waits φ φs p serial signature is =
+    record {
+      old = is.old;
+      living = is.living;
+      lives = is.lives;
+      shape = is.shape;
+      numbered = is.numbered;
+      small = is.small;
+      number = is.number;
+      low = is.low;
+      inside = is.inside;
+    }
+
+pub stored_told :
+    (waits : ℕ → Option ℕ) (φ : Layer) (φs : List Layer) (p : Point) (us : List Way) → AreStored p us →
+    AreStored (with_list waits φ φs p) us
+stored_told waits φ φs p [] h = tt
+stored_told waits φ φs p (ByValue source ∷ us) h = stored_told waits φ φs p us h
+stored_told waits φ φs p (ByName v serial signature ∷ us) h =
+    (one_told waits φ φs p serial signature h.0, stored_told waits φ φs p us h.1)
+
+one_untold :
+    (waits : ℕ → Option ℕ) (φ : Layer) (φs : List Layer) (p : Point) (serial signature : ℕ) →
+    IsStored (with_list waits φ φs p) serial signature → IsStored p serial signature
+one_untold waits φ φs p serial signature is =
+    record {
+      old = is.old;
+      living = is.living;
+      lives = is.lives;
+      shape = is.shape;
+      numbered = is.numbered;
+      small = is.small;
+      number = is.number;
+      low = is.low;
+      inside = is.inside;
+    }
+
+pub stored_untold :
+    (waits : ℕ → Option ℕ) (φ : Layer) (φs : List Layer) (p : Point) (us : List Way) →
+    AreStored (with_list waits φ φs p) us → AreStored p us
+stored_untold waits φ φs p [] h = tt
+stored_untold waits φ φs p (ByValue source ∷ us) h = stored_untold waits φ φs p us h
+stored_untold waits φ φs p (ByName v serial signature ∷ us) h =
+    (one_untold waits φ φs p serial signature h.0, stored_untold waits φ φs p us h.1)

@@ -1,44 +1,50 @@
 -- What the temporaries of the class take: as many registers as its expressions need, and the words of the frame that
 -- loops and lists of arguments set aside.
-use Rattle.std.proofs.Common.{◌≡◌, ◌⊎◌, inl, inr, ℕ, suc, ◌+◌, ◌<◌, ◌≤◌, List, [], ◌∷◌, ◌++◌, true, false, refl, sym}
-use Rattle.std.proofs.Common.{ap, ◌∙◌, subst, arith, None, Option, Some}
+-- as many registers more as are needed, at least, and no words
+use Rattle.std.proofs.Common.{◌≡◌, ◌⊎◌, inl, inr, ℕ, suc, ◌+◌, ◌<◌, ◌≤◌, List, [], ◌∷◌, ◌++◌, true, refl, sym}
+use Rattle.std.proofs.Common.{ap, subst, arith, None, Option, Some}
 use Rattle.std.specs.Prelude.{◌&&◌, ◌||◌, ◌==◌, Bool, max, if◌then◌else◌}
-use Rattle.std.proofs.lemmas.Bool.{and_from, and_parts, lt-ltb, or_cases}
+use Rattle.std.proofs.lemmas.Bool.{and_parts, lt-ltb, or_cases}
 use Rattle.pli_typing.specs.TypedTree as Y
 use Rattle.pli_meaning.specs.Control.{Label}
-use Rattle.pli_meaning.specs.DeclaredShapes.{variables_of_block}
 use Rattle.pli_meaning.specs.Executing.{labels_in}
-use Rattle.pli_coding.specs.Entries.{variable_takes, variables_take}
-use Rattle.pli_coding.specs.Environments.{Environment, Taken, most_taken, none_taken, with_number, with_words}
+use Rattle.pli_coding.specs.Allocating.{allocations_take, freeings_take}
+use Rattle.pli_coding.specs.Expressions.{argument_count, list_words}
+use Rattle.pli_coding.specs.Environments.{Taken, most_taken, with_number, with_words}
 use Rattle.pli_coding.specs.Registers.{held_registers}
-use Rattle.pli_coding.specs.Statements.{block_held, block_takes, block_words, stmt_takes, stmts_take}
+use Rattle.pli_coding.specs.Statements.{stmt_takes, stmts_take}
 use Rattle.pli_coding.specs.Storing.{assigned_takes}
 use Rattle.pli_coding.specs.Streams.{put_item_takes, put_items_take, put_takes}
-use Rattle.pli_coding.specs.Temporaries.{argument_takes, bit_takes, call_takes, number_takes, numbers_take}
-use Rattle.pli_coding.specs.Temporaries.{reference_takes, stored_takes}
+use Rattle.pli_coding.specs.Temporaries.{argument_takes, arguments_take, bit_takes, call_takes, number_takes}
+use Rattle.pli_coding.specs.Temporaries.{numbers_take, reference_takes, stored_takes, text_takes}
 use Rattle.program_runs.specs.Statements.{set_aside}
 use Rattle.expression_runs.specs.Variables.{Spot, whole}
+use Rattle.area_runs.specs.Based.{through}
 use Rattle.argument_runs.specs.Parameters.{parameter}
 use Rattle.counter_runs.specs.Counts.{count_of}
-use Rattle.number_runs.specs.Counting.{count_needs, is_count, limit_needs, start_needs}
-use Rattle.number_runs.specs.Numbers.{Scope, are_numbers, argument_needs, argument_sets, call_needs, call_sets}
-use Rattle.number_runs.specs.Numbers.{is_argument, is_element, is_fixed, is_given, is_number, is_parameter, is_reference}
-use Rattle.number_runs.specs.Numbers.{is_test, is_variable, list_sets, may_calculate, number_needs, number_sets}
+use Rattle.number_runs.specs.Counting.{count_needs, count_sets, is_count, limit_needs, limit_sets, start_needs}
+use Rattle.number_runs.specs.Counting.{start_sets}
+use Rattle.number_runs.specs.Numbers.{Scope, are_arguments, are_numbers, argument_needs, argument_sets}
+use Rattle.number_runs.specs.Numbers.{arguments_need, arguments_set, call_needs, call_sets, gives_lists, is_argument}
+use Rattle.number_runs.specs.Numbers.{is_element, is_fixed, is_given, is_number, is_reference, is_test}
+use Rattle.number_runs.specs.Numbers.{is_variable, may_calculate, number_needs, number_sets}
 use Rattle.number_runs.specs.Numbers.{numbers_need, numbers_set, reference_needs, reference_sets, test_needs, test_sets}
-use Rattle.number_runs.specs.Narrow.{has_precision, is_bit, is_number_type}
-use Rattle.number_runs.specs.Numbers.{is_narrow_with, is_wider, without_given}
-use Rattle.number_runs.specs.Puts.{are_pairs, are_put_items, is_fixed_list, is_put, is_put_item, is_put_list, is_skip}
+use Rattle.number_runs.specs.Narrow.{has_precision, is_bit, is_number_type, is_text_type}
+use Rattle.number_runs.specs.Numbers.{is_narrow_with, is_wider, is_precision, is_text, text_needs, without_given}
+use Rattle.number_runs.specs.Numbers.{IsBare, without_located}
+use Rattle.number_runs.specs.Puts.{are_pairs, are_put_items, is_put, is_put_item, is_put_list, is_skip, are_shown}
+use Rattle.number_runs.specs.Puts.{is_list}
 use Rattle.number_runs.specs.Puts.{put_item_needs, put_items_need, put_needs, without_calls}
-use Rattle.number_runs.specs.Statements.{are_statements, is_line, is_narrowed, is_statement, is_stored, statement_needs}
+use Rattle.number_runs.specs.Statements.{are_statements, behind_stored, is_line, is_narrowed, is_statement, is_stored}
+use Rattle.number_runs.specs.Statements.{statement_needs}
 use Rattle.number_runs.specs.Statements.{statement_sets, statements_need, statements_set, stored_needs, stored_sets}
-use Rattle.number_runs.specs.Variables.{are_known, are_plain, is_declared}
+use Rattle.number_runs.specs.Statements.{allocation_sets, freeing_sets, is_allocation, is_freeing}
 use Rattle.number_runs.proofs.Arrays.{element_is}
+use Rattle.number_runs.proofs.Based.{allocation_is, freeing_is, through_is}
 use Rattle.number_runs.proofs.Counters.{IsCounting, counting_is, counting_of, statement_is}
-use Rattle.number_runs.proofs.Declared.{of_declared}
-use Rattle.scalar_runs.specs.Scalars.{scalar_declared}
-use Rattle.number_runs.proofs.Narrow.{by_narrow, narrow_with_is}
-use Rattle.number_runs.proofs.Unset.{number_unset}
-use Rattle.number_runs.proofs.Variables.{parameter_declared_is, parameter_is, variable_is}
+use Rattle.number_runs.proofs.Narrow.{narrow_with_is}
+use Rattle.number_runs.proofs.Unset.{number_unset, test_unset}
+use Rattle.number_runs.proofs.Variables.{behind_number, parameter_is, variable_is}
 
 -- as many registers more as are needed, at least, and no words
 pub record Takes (need : ℕ) (t taken : Taken) : Type 0 where
@@ -57,7 +63,7 @@ next_number : (t : Taken) → t.registers < held_registers → with_number t ≡
 next_number t less =
     ap (λ q. if q then one_more t else with_words 1 t) (lt-ltb t.registers held_registers less)
 
-takes_none : (t : Taken) → Takes 0 t t
+pub takes_none : (t : Taken) → Takes 0 t t
 takes_none t = record { registers = omega arith; words = refl }
 
 takes_either : (m n : ℕ) (t a b : Taken) → Takes m t a → Takes n t b → Takes (max m n) t (most_taken a b)
@@ -76,6 +82,16 @@ takes_signed n t a less x =
     let u = x.words in
     subst (λ t'. Takes (max n 1) t (most_taken t' a)) (sym (next_number t less))
     (record { registers = omega (arith, p); words = omega (arith, u) })
+
+-- behind one number that waits
+takes_next :
+    (q : ℕ) (t : Taken) (take : Taken → Taken) → t.registers < held_registers →
+    Takes q (one_more t) (take (one_more t)) → Takes (suc q) t (take (with_number t))
+takes_next q t take less x =
+    let c = x.registers in
+    let u = x.words in
+    subst (λ t'. Takes (suc q) t (take t')) (sym (next_number t less))
+    (record { registers = omega (arith, c); words = omega (arith, u) })
 
 takes_of : (need sets : ℕ) (t taken : Taken) → sets ≡ 0 → Sets need sets t taken → Takes need t taken
 takes_of need sets t taken none x =
@@ -102,7 +118,7 @@ sets_either m n p q t a b x y =
     record { registers = omega (arith, c, d); words = omega (arith, u, v) }
 
 -- behind what takes no words
-sets_behind : (m n q : ℕ) (t a b : Taken) → Takes m t a → Sets n q t b → Sets (max m n) q t (most_taken a b)
+pub sets_behind : (m n q : ℕ) (t a b : Taken) → Takes m t a → Sets n q t b → Sets (max m n) q t (most_taken a b)
 sets_behind m n q t a b x y =
     let c = x.registers in
     let d = y.registers in
@@ -135,6 +151,10 @@ whole_takes t x = record { registers = omega arith; words = omega arith }
 parameter_takes : (t : Taken) (x : Spot) → Sets 0 0 t (reference_takes t (parameter x))
 parameter_takes t x = record { registers = omega arith; words = omega arith }
 
+-- the words of a name, and of the number of its signature
+through_takes : (t : Taken) (p n : Spot) → Sets 0 5 t (reference_takes t (through p n))
+through_takes t p n = record { registers = omega arith; words = omega arith }
+
 scalar_takes :
     (s : Scope) (r : Y.Reference) (t : Taken) → (is_variable s r ≡ true) ⊎ (is_given s r ≡ true) →
     Sets 0 0 t (reference_takes t r)
@@ -154,11 +174,16 @@ subscript_takes n p t a less x =
     subst (λ t'. Sets (max n 1) (max p 0) t (most_taken t (most_taken a t'))) (sym (next_number t less))
     (record { registers = omega (arith, c); words = omega (arith, u) })
 
+-- where nothing is located
+unlocated_takes : (n p : ℕ) (t a : Taken) → Sets n p t a → Sets n (max 0 p) t a
+unlocated_takes n p t a x =
+    let u = x.words in
+    record { registers = x.registers; words = omega (arith, u) }
+
 -- behind the words of a list
 list_takes :
-    (n p : ℕ) (t a : Taken) → Sets n p (with_words list_sets t) a →
-    Sets n (list_sets + p) t (most_taken a (with_words list_sets t))
-list_takes n p t a x =
+    (n p q : ℕ) (t a : Taken) → Sets n p (with_words q t) a → Sets n (q + p) t a
+list_takes n p q t a x =
     let c = x.registers in
     let u = x.words in
     record { registers = omega (arith, c); words = omega (arith, u) }
@@ -188,6 +213,17 @@ flag_taken s r t h =
     let w = narrow_with_is s is_bit r h in
     subst (λ q. Sets 0 0 t (reference_takes t q)) (sym w.is) (whole_takes t w.spot)
 
+text_in_taken :
+    (s : Scope) (r : Y.Reference) (t : Taken) → is_narrow_with s is_text_type r ≡ true →
+    Takes 0 t (text_takes t (Y.TextIn r))
+text_in_taken s r t h =
+    let w = narrow_with_is s is_text_type r h in
+    let x = whole_takes t w.spot in
+    let c = x.registers in
+    let u = x.words in
+    subst (λ q. Takes 0 t (reference_takes t q)) (sym w.is)
+    (record { registers = omega (arith, c); words = omega (arith, u) })
+
 named_taken :
     (s : Scope) (r : Y.Reference) (t : Taken) →
     (is_reference s r ≡ true) ⊎ (is_narrow_with s is_number_type r ≡ true) →
@@ -195,6 +231,31 @@ named_taken :
     Sets (reference_needs r) (reference_sets r) t (reference_takes t r)
 named_taken s r t (inl h) one = one h
 named_taken s r t (inr h) one = narrow_taken s is_number_type r t h
+
+given_are :
+    (s : Scope) (number level : ℕ) (xs : Y.Arguments) → is_number s (Y.NumberFrom (Y.Calling number level xs)) ≡ true →
+    are_arguments (without_located s) xs ≡ true
+given_are s number level Y.NoArgument h = refl
+given_are s number level (Y.ArgumentThen first rest) h =
+    let xs = Y.ArgumentThen first rest in
+    let taken = s.is_given_function (suc (argument_count rest)) level number in
+    let a = and_parts (gives_lists s) (taken && are_arguments (without_located s) xs) h in
+    (and_parts taken (are_arguments (without_located s) xs) a.1).1
+
+-- a number takes no words where calls have no arguments
+unset_taken :
+    (s : Scope) (x : Y.Number) (t : Taken) → IsBare s → is_number s x ≡ true →
+    Sets (number_needs x) (number_sets x) t (number_takes t x) → Takes (number_needs x) t (number_takes t x)
+unset_taken s x t none h taken =
+    takes_of (number_needs x) (number_sets x) t (number_takes t x) (number_unset s x none h) taken
+
+two_texts_taken :
+    (left right : Y.Text) (t : Taken) → Takes (text_needs left) t (text_takes t left) →
+    Takes (text_needs right) t (text_takes t right) →
+    Sets (max (text_needs left) (text_needs right)) 0 t (most_taken (text_takes t left) (text_takes t right))
+two_texts_taken left right t x y =
+    sets_no_words (max (text_needs left) (text_needs right)) t (most_taken (text_takes t left) (text_takes t right))
+    (takes_either (text_needs left) (text_needs right) t (text_takes t left) (text_takes t right) x y)
 
 mutual
   pub number_taken :
@@ -237,11 +298,23 @@ mutual
       sets_two (number_needs left) (number_needs right) (number_sets left) (number_sets right) t
       (number_takes t left) (λ u. number_takes u right) fits
       (number_taken s left t a.0 (omega (arith, fits))) (number_taken s right (one_more t) a.1 (omega (arith, fits)))
-  number_taken s (Y.NumberOfText x) t h fits = absurd (cc h)
-  number_taken s (Y.NumberOfBit x) t h fits = absurd (cc h)
-  number_taken s (Y.LengthOf x) t h fits = absurd (cc h)
-  number_taken s (Y.IndexOf x y) t h fits = absurd (cc h)
-  number_taken s (Y.VerifyOf x y) t h fits = absurd (cc h)
+  number_taken s (Y.NumberOfText x) t h fits =
+      sets_no_words (text_needs x) t (text_takes t x)
+      (text_taken (without_given s) x t (refl, refl) (and_parts s.texts (is_text (without_given s) x) h).1 fits)
+  number_taken s (Y.NumberOfBit x) t h fits = test_taken s x t (and_parts s.narrows (is_test s x) h).1 fits
+  number_taken s (Y.LengthOf x) t h fits =
+      sets_no_words (text_needs x) t (text_takes t x)
+      (text_taken (without_given s) x t (refl, refl) (and_parts s.texts (is_text (without_given s) x) h).1 fits)
+  number_taken s (Y.IndexOf x y) t h fits =
+      let g = without_given s in
+      let a = and_parts (is_text g x) (is_text g y) (and_parts s.texts (is_text g x && is_text g y) h).1 in
+      two_texts_taken x y t (text_taken g x t (refl, refl) a.0 (omega (arith, fits)))
+      (text_taken g y t (refl, refl) a.1 (omega (arith, fits)))
+  number_taken s (Y.VerifyOf x y) t h fits =
+      let g = without_given s in
+      let a = and_parts (is_text g x) (is_text g y) (and_parts s.texts (is_text g x && is_text g y) h).1 in
+      two_texts_taken x y t (text_taken g x t (refl, refl) a.0 (omega (arith, fits)))
+      (text_taken g y t (refl, refl) a.1 (omega (arith, fits)))
   number_taken s (Y.LowerBound r n) t h fits = absurd (cc h)
   number_taken s (Y.UpperBound r n) t h fits = absurd (cc h)
   number_taken s (Y.ElementsOf r n) t h fits = absurd (cc h)
@@ -251,16 +324,22 @@ mutual
   pub call_taken :
       (s : Scope) (c : Y.Call) (t : Taken) → is_number s (Y.NumberFrom c) ≡ true → Fits t (call_needs c) →
       Sets (call_needs c) (call_sets c) t (call_takes t c)
-  call_taken s (Y.Calling number level Y.NoArgument) t h fits = record { registers = omega arith; words = omega arith }
-  call_taken s (Y.Calling number level (Y.ArgumentThen argument Y.NoArgument)) t h fits =
-      let known = s.is_given_function level number && is_argument (without_given s) argument in
-      let a = and_parts s.gives known h in
-      let b = and_parts (s.is_given_function level number) (is_argument (without_given s) argument) a.1 in
-      list_takes (max (argument_needs argument) 1) (argument_sets argument) t
-      (argument_takes (with_words list_sets t) argument)
-      (argument_taken (without_given s) argument (with_words list_sets t) b.1 (omega (arith, fits)))
-  call_taken s (Y.Calling number level (Y.ArgumentThen argument (Y.ArgumentThen second rest))) t h fits =
-      absurd (cc h)
+  call_taken s (Y.Calling number level arguments) t h fits =
+      list_takes (arguments_need arguments) (arguments_set arguments) (list_words arguments) t
+      (call_takes t (Y.Calling number level arguments))
+      (arguments_taken (without_located s) arguments (with_words (list_words arguments) t)
+      (given_are s number level arguments h)
+      (omega (arith, fits)))
+
+  pub arguments_taken :
+      (s : Scope) (xs : Y.Arguments) (t : Taken) → are_arguments s xs ≡ true → Fits t (arguments_need xs) →
+      Sets (arguments_need xs) (arguments_set xs) t (arguments_take t xs)
+  arguments_taken s Y.NoArgument t h fits = sets_none t
+  arguments_taken s (Y.ArgumentThen first rest) t h fits =
+      let a = and_parts (is_argument s first) (are_arguments s rest) h in
+      sets_either (max (argument_needs first) 1) (arguments_need rest) (argument_sets first) (arguments_set rest) t
+      (argument_takes t first) (arguments_take t rest) (argument_taken s first t a.0 (omega (arith, fits)))
+      (arguments_taken s rest t a.1 (omega (arith, fits)))
 
   -- a value waits on its way into the list
   pub argument_taken :
@@ -290,12 +369,17 @@ mutual
       let number = (and_parts (is_number s subscript) (is_wider s subscript) a.1).0 in
       let w = element_is s v part subscript a.0 in
       let need = max (number_needs subscript) 1 in
-      subst (λ r. Sets need (max (number_sets subscript) 0) t (reference_takes t r)) (sym w.is)
+      subst (λ r. Sets need (max 0 (max (number_sets subscript) 0)) t (reference_takes t r)) (sym w.is)
+      (unlocated_takes need (max (number_sets subscript) 0) t
+      (most_taken t (most_taken (number_takes t subscript) (with_number t)))
       (subscript_takes (number_needs subscript) (number_sets subscript) t (number_takes t subscript)
-      (omega (arith, fits)) (number_taken s subscript t number (omega (arith, fits))))
+      (omega (arith, fits)) (number_taken s subscript t number (omega (arith, fits)))))
   reference_taken s (Y.Referring v Y.NotLocated part (Y.NumberThen first (Y.NumberThen second rest))) t h fits =
       absurd (cc h)
-  reference_taken s (Y.Referring v (Y.LocatedBy p) part Y.NoNumber) t h fits = absurd (cc h)
+  reference_taken s (Y.Referring v (Y.LocatedBy p) part Y.NoNumber) t h fits =
+      let w = through_is s v p part h in
+      subst (λ r. Sets (reference_needs r) (reference_sets r) t (reference_takes t r)) (sym w.is)
+      (through_takes t w.pointer w.based)
   reference_taken s (Y.Referring v (Y.LocatedBy p) part (Y.NumberThen first rest)) t h fits = absurd (cc h)
 
   numbers_taken :
@@ -308,34 +392,72 @@ mutual
       (number_takes t first) (numbers_take t rest)
       (number_taken s first t a.0 (omega (arith, fits))) (numbers_taken s rest t a.1 (omega (arith, fits)))
 
--- ---- tests
+  pub test_taken :
+      (s : Scope) (x : Y.Bit) (t : Taken) → is_test s x ≡ true → Fits t (test_needs x) →
+      Sets (test_needs x) (test_sets x) t (bit_takes t x)
+  test_taken s (Y.BitConstant b) t h fits = sets_none t
+  test_taken s (Y.Negated x) t h fits = test_taken s x t h fits
+  test_taken s (Y.Combined operator left right) t h fits =
+      let a = and_parts (is_test s left) (is_test s right) h in
+      sets_two (test_needs left) (test_needs right) (test_sets left) (test_sets right) t (bit_takes t left)
+      (λ u. bit_takes u right) fits
+      (test_taken s left t a.0 (omega (arith, fits))) (test_taken s right (one_more t) a.1 (omega (arith, fits)))
+  test_taken s (Y.NumbersCompared comparison left right) t h fits =
+      let a = and_parts (is_number s left) (is_number s right) h in
+      sets_two (number_needs left) (number_needs right) (number_sets left) (number_sets right) t (number_takes t left)
+      (λ u. number_takes u right) fits
+      (number_taken s left t a.0 (omega (arith, fits))) (number_taken s right (one_more t) a.1 (omega (arith, fits)))
+  test_taken s (Y.BitsCompared comparison left right) t h fits =
+      let a = and_parts (is_test s left) (is_test s right) h in
+      sets_two (test_needs left) (test_needs right) (test_sets left) (test_sets right) t (bit_takes t left)
+      (λ u. bit_takes u right) fits
+      (test_taken s left t a.0 (omega (arith, fits))) (test_taken s right (one_more t) a.1 (omega (arith, fits)))
+  test_taken s (Y.BitIn r) t h fits = flag_taken s r t h
+  test_taken s (Y.BitFrom c) t h fits = absurd (cc h)
+  test_taken s (Y.BitOfText x) t h fits =
+      sets_no_words (text_needs x) t (text_takes t x)
+      (text_taken (without_given s) x t (refl, refl) (and_parts s.texts (is_text (without_given s) x) h).1 fits)
+  test_taken s (Y.TextsCompared comparison left right) t h fits =
+      let g = without_given s in
+      let both = is_text g left && is_text g right in
+      let a = and_parts (is_text g left) (is_text g right) (and_parts s.texts both h).1 in
+      two_texts_taken left right t (text_taken g left t (refl, refl) a.0 (omega (arith, fits)))
+      (text_taken g right t (refl, refl) a.1 (omega (arith, fits)))
+  test_taken s (Y.PointersCompared equal left right) t h fits = absurd (cc h)
+  test_taken s (Y.OffsetsCompared equal left right) t h fits = absurd (cc h)
 
-pub test_taken :
-    (s : Scope) (x : Y.Bit) (t : Taken) → is_test s x ≡ true → Fits t (test_needs x) →
-    Sets (test_needs x) (test_sets x) t (bit_takes t x)
-test_taken s (Y.BitConstant b) t h fits = sets_none t
-test_taken s (Y.Negated x) t h fits = test_taken s x t h fits
-test_taken s (Y.Combined operator left right) t h fits =
-    let a = and_parts (is_test s left) (is_test s right) h in
-    sets_two (test_needs left) (test_needs right) (test_sets left) (test_sets right) t (bit_takes t left)
-    (λ u. bit_takes u right) fits
-    (test_taken s left t a.0 (omega (arith, fits))) (test_taken s right (one_more t) a.1 (omega (arith, fits)))
-test_taken s (Y.NumbersCompared comparison left right) t h fits =
-    let a = and_parts (is_number s left) (is_number s right) h in
-    sets_two (number_needs left) (number_needs right) (number_sets left) (number_sets right) t (number_takes t left)
-    (λ u. number_takes u right) fits
-    (number_taken s left t a.0 (omega (arith, fits))) (number_taken s right (one_more t) a.1 (omega (arith, fits)))
-test_taken s (Y.BitsCompared comparison left right) t h fits =
-    let a = and_parts (is_test s left) (is_test s right) h in
-    sets_two (test_needs left) (test_needs right) (test_sets left) (test_sets right) t (bit_takes t left)
-    (λ u. bit_takes u right) fits
-    (test_taken s left t a.0 (omega (arith, fits))) (test_taken s right (one_more t) a.1 (omega (arith, fits)))
-test_taken s (Y.BitIn r) t h fits = flag_taken s r t h
-test_taken s (Y.BitFrom c) t h fits = absurd (cc h)
-test_taken s (Y.BitOfText x) t h fits = absurd (cc h)
-test_taken s (Y.TextsCompared comparison left right) t h fits = absurd (cc h)
-test_taken s (Y.PointersCompared equal left right) t h fits = absurd (cc h)
-test_taken s (Y.OffsetsCompared equal left right) t h fits = absurd (cc h)
+  -- texts wait on their stack
+  pub text_taken :
+      (s : Scope) (x : Y.Text) (t : Taken) → IsBare s → is_text s x ≡ true → Fits t (text_needs x) →
+      Takes (text_needs x) t (text_takes t x)
+  text_taken s (Y.TextConstant bytes) t none h fits = takes_none t
+  text_taken s (Y.TextIn r) t none h fits = text_in_taken s r t h
+  text_taken s (Y.TextFrom c) t none h fits = absurd (cc h)
+  text_taken s (Y.TextOfNumber precision x) t none h fits =
+      let a = and_parts (is_precision precision) (is_number s x) h in
+      unset_taken s x t none a.1 (number_taken s x t a.1 fits)
+  text_taken s (Y.TextOfBit x) t none h fits =
+      takes_of (test_needs x) (test_sets x) t (bit_takes t x) (test_unset s x none h) (test_taken s x t h fits)
+  text_taken s (Y.Joined left right) t none h fits =
+      let a = and_parts (is_text s left) (is_text s right) h in
+      takes_either (text_needs left) (text_needs right) t (text_takes t left) (text_takes t right)
+      (text_taken s left t none a.0 (omega (arith, fits))) (text_taken s right t none a.1 (omega (arith, fits)))
+  text_taken s (Y.SubstringFrom x start) t none h fits =
+      let a = and_parts (is_text s x) (is_number s start) h in
+      takes_either (text_needs x) (number_needs start) t (text_takes t x) (number_takes t start)
+      (text_taken s x t none a.0 (omega (arith, fits)))
+      (unset_taken s start t none a.1 (number_taken s start t a.1 (omega (arith, fits))))
+  text_taken s (Y.Substring x start count) t none h fits =
+      let a = and_parts (is_text s x) (is_number s start && is_number s count) h in
+      let b = and_parts (is_number s start) (is_number s count) a.1 in
+      let last = max (number_needs start) (suc (number_needs count)) in
+      let both = most_taken (number_takes t start) (number_takes (with_number t) count) in
+      takes_either (text_needs x) last t (text_takes t x) both (text_taken s x t none a.0 (omega (arith, fits)))
+      (takes_either (number_needs start) (suc (number_needs count)) t (number_takes t start)
+      (number_takes (with_number t) count)
+      (unset_taken s start t none b.0 (number_taken s start t b.0 (omega (arith, fits))))
+      (takes_next (number_needs count) t (λ u. number_takes u count) (omega (arith, fits))
+      (unset_taken s count (one_more t) none b.1 (number_taken s count (one_more t) b.1 (omega (arith, fits))))))
 
 -- ---- statements, where only words are taken yet
 
@@ -374,8 +496,9 @@ assigned_taken words s target (Y.StoredOffset x) h g fits = absurd (cc g)
 -- a scalar of fewer bits takes nothing itself
 narrowed_taken :
     (words : ℕ) (s : Scope) (target : Y.Reference) (source : Y.Stored) → is_narrowed s target source ≡ true →
-    max (stored_needs source) (suc (reference_needs target)) ≤ held_registers →
-    Sets (max (stored_needs source) (suc (reference_needs target))) (max (stored_sets source) (reference_sets target))
+    max (stored_needs source) (behind_stored source (reference_needs target)) ≤ held_registers →
+    Sets (max (stored_needs source) (behind_stored source (reference_needs target)))
+    (max (stored_sets source) (reference_sets target))
     (set_aside words) (assigned_takes (set_aside words) target source)
 narrowed_taken words s target (Y.StoredNumber precision x) h fits =
     let narrow = is_narrow_with s (has_precision precision) target in
@@ -397,33 +520,47 @@ narrowed_taken words s target (Y.StoredBit x) h fits =
     let u = a.words in
     let v = b.words in
     record { registers = omega (arith, p, q); words = omega (arith, u, v) }
-narrowed_taken words s target (Y.StoredText x) h fits = absurd (cc h)
+narrowed_taken words s target (Y.StoredText x) h fits =
+    let g = without_given s in
+    let c = and_parts s.texts (is_narrow_with s is_text_type target && is_text g x) h in
+    let d = and_parts (is_narrow_with s is_text_type target) (is_text g x) c.1 in
+    let a = narrow_taken s is_text_type target (set_aside words) d.0 in
+    let b = text_taken g x (set_aside words) (refl, refl) d.1 (omega (arith, fits)) in
+    let p = b.registers in
+    let q = a.registers in
+    let u = a.words in
+    let v = b.words in
+    record { registers = omega (arith, p, q); words = omega (arith, u, v) }
 narrowed_taken words s target (Y.StoredPointer x) h fits = absurd (cc h)
 narrowed_taken words s target (Y.StoredOffset x) h fits = absurd (cc h)
 
 assignment_taken :
     (words : ℕ) (s : Scope) (target : Y.Reference) (source : Y.Stored) →
     ((is_reference s target && is_stored s source) ≡ true) ⊎ (is_narrowed s target source ≡ true) →
-    max (stored_needs source) (suc (reference_needs target)) ≤ held_registers →
-    Sets (max (stored_needs source) (suc (reference_needs target))) (max (stored_sets source) (reference_sets target))
+    max (stored_needs source) (behind_stored source (reference_needs target)) ≤ held_registers →
+    Sets (max (stored_needs source) (behind_stored source (reference_needs target)))
+    (max (stored_sets source) (reference_sets target))
     (set_aside words) (assigned_takes (set_aside words) target source)
 assignment_taken words s target source (inl h) fits =
     let b = and_parts (is_reference s target) (is_stored s source) h in
-    assigned_taken words s target source b.0 b.1 fits
+    let n = behind_number s source (reference_needs target) b.1 in
+    subst (λ m. Sets (max (stored_needs source) m) (max (stored_sets source) (reference_sets target))
+    (set_aside words) (assigned_takes (set_aside words) target source)) (sym n)
+    (assigned_taken words s target source b.0 b.1 (omega (arith, fits, n)))
 assignment_taken words s target source (inr h) fits = narrowed_taken words s target source h fits
 
 -- start, limit and step are evaluated while three words are set aside, and the variable is assigned while two are
 counting_taken :
     (words : ℕ) (s : Scope) (spot : Spot) (precision : ℕ) (first last n : Y.Number) (body : Y.Stmts) (line : ℕ) →
-    s.gives ≡ false → (is_number s first ≡ true) × (number_needs first ≤ held_registers) →
+    (is_number s first ≡ true) × (number_needs first ≤ held_registers) →
     (is_number s last ≡ true) × (number_needs last ≤ held_registers) →
-    (is_number s n ≡ true) × (number_needs n ≤ 1) →
+    (is_number s n ≡ true) × (number_needs n ≤ 1) → number_sets n ≡ 0 →
     Sets (statements_need body) (statements_set body) (set_aside (words + 2)) (stmts_take (set_aside (words + 2)) body)
     → Sets (max (max 1 (max (number_needs first) (number_needs last))) (statements_need body))
-    (max 3 (2 + statements_set body)) (set_aside words)
+    (max (3 + max (number_sets first) (number_sets last)) (2 + statements_set body)) (set_aside words)
     (stmt_takes (set_aside words)
     (Y.DoCount (Y.NumberCounter 31 (whole spot)) (Y.NumberValue precision first) (Some last) n None body line))
-counting_taken words s spot precision first last n body line none x y z inner =
+counting_taken words s spot precision first last n body line x y z c2 inner =
     let three = set_aside (words + 3) in
     let xf = x.1 in
     let yf = y.1 in
@@ -431,9 +568,6 @@ counting_taken words s spot precision first last n body line none x y z inner =
     let a = number_taken s first three x.0 (omega (arith, xf)) in
     let b = number_taken s last three y.0 (omega (arith, yf)) in
     let c = number_taken s n three z.0 (omega (arith, zf)) in
-    let a2 = number_unset s first none x.0 in
-    let b2 = number_unset s last none y.0 in
-    let c2 = number_unset s n none z.0 in
     let a0 = a.registers in
     let a1 = a.words in
     let b0 = b.registers in
@@ -441,26 +575,34 @@ counting_taken words s spot precision first last n body line none x y z inner =
     let c1 = c.words in
     let d0 = inner.registers in
     let d1 = inner.words in
-    record { registers = omega (arith, a0, b0, d0); words = omega (arith, a1, b1, c1, d1, a2, b2, c2) }
+    record { registers = omega (arith, a0, b0, d0); words = omega (arith, a1, b1, c1, d1, c2) }
 
 count_taken :
     (words : ℕ) (s : Scope) {k : Y.Counter} {v : Y.Value} {o : Option Y.Number} {n : Y.Number} {w : Option Y.Bit}
-    (x : IsCounting s k v o n w) (body : Y.Stmts) (line : ℕ) → s.gives ≡ false → count_needs v o ≤ held_registers →
+    (x : IsCounting s k v o n w) (body : Y.Stmts) (line : ℕ) → count_needs v o ≤ held_registers →
     Sets (statements_need body) (statements_set body) (set_aside (words + 2)) (stmts_take (set_aside (words + 2)) body)
-    → Sets (max (count_needs v o) (statements_need body)) (max 3 (2 + statements_set body)) (set_aside words)
+    → Sets (max (count_needs v o) (statements_need body)) (max (3 + count_sets v o) (2 + statements_set body))
+    (set_aside words)
     (stmt_takes (set_aside words) (Y.DoCount k v o n w body line))
-count_taken words s {v = v} {o = o} {n = n} x body line none fits inner =
+count_taken words s {v = v} {o = o} {n = n} x body line fits inner =
     let first : start_needs v ≡ number_needs x.first = ap start_needs x.start in
     let last : limit_needs o ≡ number_needs x.last = ap limit_needs x.limit in
     let needs : max 1 (max (number_needs x.first) (number_needs x.last)) ≡ count_needs v o =
     omega (arith, first, last) in
-    subst (λ stmt. Sets (max (count_needs v o) (statements_need body)) (max 3 (2 + statements_set body))
+    let first' : start_sets v ≡ number_sets x.first = ap start_sets x.start in
+    let last' : limit_sets o ≡ number_sets x.last = ap limit_sets x.limit in
+    let sets : max (number_sets x.first) (number_sets x.last) ≡ count_sets v o = omega (arith, first', last') in
+    subst (λ stmt. Sets (max (count_needs v o) (statements_need body))
+    (max (3 + count_sets v o) (2 + statements_set body))
     (set_aside words) (stmt_takes (set_aside words) stmt)) (sym (statement_is x body line))
-    (subst (λ m. Sets (max m (statements_need body)) (max 3 (2 + statements_set body)) (set_aside words)
+    (subst (λ q. Sets (max (count_needs v o) (statements_need body)) (max (3 + q) (2 + statements_set body))
+    (set_aside words) (stmt_takes (set_aside words) (count_of (counting_of x body line)))) sets
+    (subst (λ m. Sets (max m (statements_need body))
+    (max (3 + max (number_sets x.first) (number_sets x.last)) (2 + statements_set body)) (set_aside words)
     (stmt_takes (set_aside words) (count_of (counting_of x body line)))) needs
-    (counting_taken words s x.spot x.precision x.first x.last n body line none
+    (counting_taken words s x.spot x.precision x.first x.last n body line
     (x.first_known, omega (arith, fits, first)) (x.last_known, omega (arith, fits, last)) (x.step_known, x.step_few)
-    inner))
+    x.step_sets inner)))
 
 put_item_taken :
     (words : ℕ) (s : Scope) (i : Y.PutItem) → is_put_item s i ≡ true → put_item_needs i ≤ held_registers →
@@ -468,9 +610,11 @@ put_item_taken :
 put_item_taken words s (Y.PutValue (Y.NumberValue precision x)) h fits =
     takes_signed (number_needs x) (set_aside words) (number_takes (set_aside words) x) (omega arith)
     (takes_of (number_needs x) (number_sets x) (set_aside words) (number_takes (set_aside words) x)
-    (number_unset (without_calls s) x refl h)
+    (number_unset (without_calls s) x (refl, refl) h)
     (number_taken (without_calls s) x (set_aside words) h (omega (arith, fits))))
-put_item_taken words s (Y.PutValue (Y.TextValue x)) h fits = absurd (cc h)
+put_item_taken words s (Y.PutValue (Y.TextValue x)) h fits =
+    text_taken (without_calls s) x (set_aside words) (refl, refl) (and_parts s.texts (is_text (without_calls s) x) h).1
+    (omega (arith, fits))
 put_item_taken words s (Y.PutValue (Y.BitValue x)) h fits = absurd (cc h)
 put_item_taken words s (Y.PutValue (Y.PointerValue x)) h fits = absurd (cc h)
 put_item_taken words s (Y.PutValue (Y.OffsetValue area x)) h fits = absurd (cc h)
@@ -498,8 +642,9 @@ pairs_taken :
     Takes (put_needs ps) (set_aside words) (put_takes (set_aside words) ps)
 pairs_taken words s [] h fits = takes_none (set_aside words)
 pairs_taken words s (p ∷ ps) h fits =
-    let a = and_parts (is_put_list s p.items && is_fixed_list p.formats) (are_pairs s ps) h in
-    let b = and_parts (is_put_list s p.items) (is_fixed_list p.formats) a.0 in
+    let by = is_list p.formats && are_shown p.formats p.items in
+    let a = and_parts (is_put_list s p.items && by) (are_pairs s ps) h in
+    let b = and_parts (is_put_list s p.items) by a.0 in
     takes_either (put_items_need p.items) (put_needs ps) (set_aside words) (put_items_take (set_aside words) p.items)
     (put_takes (set_aside words) ps) (put_list_taken words s p.items b.0 (omega (arith, fits)))
     (pairs_taken words s ps a.1 (omega (arith, fits)))
@@ -511,6 +656,23 @@ put_taken words s skip [] h fits = takes_none (set_aside words)
 put_taken words s skip (p ∷ ps) h fits =
     let a = and_parts (is_skip skip) (s.puts && are_pairs s (p ∷ ps)) h in
     pairs_taken words s (p ∷ ps) (and_parts s.puts (are_pairs s (p ∷ ps)) a.1).1 fits
+
+-- two words and a name
+allocation_taken :
+    (words : ℕ) (s : Scope) (all : List Y.Allocation) → is_allocation s all ≡ true →
+    Sets 0 allocation_sets (set_aside words) (allocations_take (set_aside words) all)
+allocation_taken words s all h =
+    let x = allocation_is s all h in
+    subst (λ q. Sets 0 allocation_sets (set_aside words) (allocations_take (set_aside words) q)) (sym x.is)
+    (record { registers = omega arith; words = omega arith })
+
+freeing_taken :
+    (words : ℕ) (s : Scope) (all : List Y.Freeing) → is_freeing s all ≡ true →
+    Sets 0 freeing_sets (set_aside words) (freeings_take (set_aside words) all)
+freeing_taken words s all h =
+    let x = freeing_is s all h in
+    subst (λ q. Sets 0 freeing_sets (set_aside words) (freeings_take (set_aside words) q)) (sym x.is)
+    (record { registers = omega arith; words = omega arith })
 
 mutual
   pub statement_taken :
@@ -562,17 +724,15 @@ mutual
   statement_taken words s valued labels (Y.CallProcedure (Y.Calling number level Y.NoArgument) line) h fits =
       record { registers = omega arith; words = omega arith }
   statement_taken words s valued labels
-      (Y.CallProcedure (Y.Calling number level (Y.ArgumentThen argument Y.NoArgument)) line) h fits =
-      let known = s.is_given_procedure level number && is_argument (without_given s) argument in
-      let a = and_parts (is_line line) (s.gives && known) h in
-      let b = and_parts s.gives known a.1 in
-      let c = and_parts (s.is_given_procedure level number) (is_argument (without_given s) argument) b.1 in
-      let t = with_words list_sets (set_aside words) in
-      list_takes (max (argument_needs argument) 1) (argument_sets argument) (set_aside words)
-      (argument_takes t argument) (argument_taken (without_given s) argument t c.1 (omega (arith, fits)))
-  statement_taken words s valued labels
-      (Y.CallProcedure (Y.Calling number level (Y.ArgumentThen argument (Y.ArgumentThen second rest))) line) h fits =
-      absurd (cc h)
+      (Y.CallProcedure (Y.Calling number level (Y.ArgumentThen first rest)) line) h fits =
+      let xs = Y.ArgumentThen first rest in
+      let taken = s.is_given_procedure (suc (argument_count rest)) level number in
+      let a = and_parts (is_line line) (gives_lists s && (taken && are_arguments (without_located s) xs)) h in
+      let b = and_parts (gives_lists s) (taken && are_arguments (without_located s) xs) a.1 in
+      let c = and_parts taken (are_arguments (without_located s) xs) b.1 in
+      list_takes (arguments_need xs) (arguments_set xs) (list_words xs) (set_aside words)
+      (call_takes (set_aside words) (Y.Calling number level xs))
+      (arguments_taken (without_located s) xs (with_words (list_words xs) (set_aside words)) c.1 (omega (arith, fits)))
   statement_taken words s valued labels (Y.Return line) h fits = sets_none (set_aside words)
   statement_taken words s valued labels (Y.ReturnValue type source line) h fits =
       let rest = is_fixed type && is_stored s source in
@@ -584,25 +744,28 @@ mutual
   statement_taken words s valued labels (Y.Stop line) h fits = sets_none (set_aside words)
   statement_taken words s valued labels (Y.AssignElements target source line) h fits = absurd (cc h)
   statement_taken words s valued labels (Y.AssignAggregate target source line) h fits = absurd (cc h)
-  statement_taken words s valued labels (Y.AssignArea target source line) h fits = absurd (cc h)
-  statement_taken words s valued labels (Y.EmptyArea target line) h fits = absurd (cc h)
+  statement_taken words s valued labels (Y.AssignArea target source line) h fits = sets_none (set_aside words)
+  statement_taken words s valued labels (Y.EmptyArea target line) h fits = sets_none (set_aside words)
   statement_taken words s valued labels (Y.DoOnce variable start condition body line) h fits = absurd (cc h)
   statement_taken words s valued labels (Y.DoCount counter start limit step condition body line) h fits =
-      let u = without_given s in
+      let u = without_located s in
       let inner = are_statements u valued (labels_in body ++ labels) body in
       let counts' = is_count u counter start limit step condition in
       let a = and_parts (is_line line) (s.counts && (counts' && inner)) h in
       let b = and_parts s.counts (counts' && inner) a.1 in
       let c = and_parts counts' inner b.1 in
-      count_taken words u (counting_is u counter start limit step condition c.0) body line refl (omega (arith, fits))
+      count_taken words u (counting_is u counter start limit step condition c.0) body line (omega (arith, fits))
       (statements_taken (words + 2) u valued (labels_in body ++ labels) body c.1 (omega (arith, fits)))
   statement_taken words s valued labels (Y.Begin block) h fits = absurd (cc h)
   statement_taken words s valued labels (Y.OnSystem condition line) h fits = absurd (cc h)
   statement_taken words s valued labels (Y.OnUnit condition unit line) h fits = absurd (cc h)
-  statement_taken words s valued labels (Y.Signal condition line) h fits = absurd (cc h)
+  statement_taken words s valued labels (Y.Signal condition line) h fits =
+      record { registers = omega arith; words = omega arith }
   statement_taken words s valued labels (Y.Revert condition line) h fits = absurd (cc h)
-  statement_taken words s valued labels (Y.Allocate all line) h fits = absurd (cc h)
-  statement_taken words s valued labels (Y.Free all line) h fits = absurd (cc h)
+  statement_taken words s valued labels (Y.Allocate all line) h fits =
+      allocation_taken words s all (and_parts (is_line line) (is_allocation s all) h).1
+  statement_taken words s valued labels (Y.Free all line) h fits =
+      freeing_taken words s all (and_parts (is_line line) (is_freeing s all) h).1
   statement_taken words s valued labels (Y.Get skip pairs line) h fits = absurd (cc h)
   statement_taken words s valued labels (Y.Put skip pairs line) h fits =
       sets_no_words (put_needs pairs) (set_aside words) (put_takes (set_aside words) pairs)
@@ -620,58 +783,3 @@ mutual
       (set_aside words) (stmt_takes (set_aside words) first)
       (stmts_take (set_aside words) rest) (statement_taken words s valued labels first a.0 (omega (arith, fits)))
       (statements_taken words s valued labels rest a.1 (omega (arith, fits)))
-
--- ---- blocks
-
-known_takes :
-    (d : Y.DeclaredVariable) → (is_declared d ≡ true) ⊎ (is_parameter d ≡ true) → variable_takes d ≡ none_taken
-known_takes d (inl h) =
-    of_declared (λ d'. variable_takes d' ≡ none_taken) refl (λ b is. refl)
-    (by_narrow (λ t. variable_takes (scalar_declared t []) ≡ none_taken) (λ p is. refl) refl) d h
-known_takes d (inr h) = subst (λ d'. variable_takes d' ≡ none_taken) (sym (parameter_declared_is d h)) refl
-
-pub plain_takes : (ds : List Y.DeclaredVariable) → are_known ds ≡ true → variables_take ds ≡ none_taken
-plain_takes [] h = refl
-plain_takes (d ∷ ds) h =
-    let a = and_parts (is_declared d || is_parameter d) (are_known ds) h in
-    ap (λ t. most_taken t (variables_take ds)) (known_takes d (or_cases (is_declared d) (is_parameter d) a.0))
-    ∙ ap (λ t. most_taken none_taken t) (plain_takes ds a.1)
-
--- those that a block makes are known
-pub plain_known : (ds : List Y.DeclaredVariable) → are_plain ds ≡ true → are_known ds ≡ true
-plain_known [] h = refl
-plain_known (d ∷ ds) h =
-    let a = and_parts (is_declared d) (are_plain ds) h in
-    and_from (is_declared d || is_parameter d) (are_known ds) (ap (λ q. q || is_parameter d) a.0)
-    (plain_known ds a.1)
-
-pub block_sets :
-    (s : Scope) (valued : Bool) (program : Y.Program) (block : ℕ) (body : Y.Stmts) →
-    are_known (variables_of_block program block) ≡ true →
-    are_statements s valued (labels_in body ++ []) body ≡ true → statements_need body ≤ held_registers →
-    Sets (statements_need body) (statements_set body) none_taken (block_takes program block body)
-block_sets s valued program block body plain h fits =
-    subst (λ t. Sets (statements_need body) (statements_set body) none_taken
-    (most_taken t (stmts_take none_taken body))) (sym (plain_takes (variables_of_block program block) plain))
-    (subst (λ n. Sets n (statements_set body) none_taken (most_taken none_taken (stmts_take none_taken body)))
-    (omega arith)
-    (sets_behind 0 (statements_need body) (statements_set body) none_taken none_taken (stmts_take none_taken body)
-    (takes_none none_taken) (statements_taken 0 s valued (labels_in body ++ []) body h fits)))
-
-pub words_set :
-    (s : Scope) (valued : Bool) (e : Environment) (block : ℕ) (body : Y.Stmts) →
-    are_known (variables_of_block e.program block) ≡ true →
-    are_statements s valued (labels_in body ++ []) body ≡ true → statements_need body ≤ held_registers →
-    block_words e block body ≡ statements_set body
-words_set s valued e block body plain h fits =
-    let n = (block_sets s valued e.program block body plain h fits).words in
-    omega (arith, n)
-
-pub registers_held :
-    (s : Scope) (valued : Bool) (e : Environment) (block : ℕ) (body : Y.Stmts) →
-    are_known (variables_of_block e.program block) ≡ true →
-    are_statements s valued (labels_in body ++ []) body ≡ true → statements_need body ≤ held_registers →
-    statements_need body ≤ block_held e block body
-registers_held s valued e block body plain h fits =
-    let n = (block_sets s valued e.program block body plain h fits).registers in
-    omega (arith, n, fits)

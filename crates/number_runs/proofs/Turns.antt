@@ -1,6 +1,6 @@
 -- A block while limits wait in words of its frame: it is as ready as it was, and the statements of a turn stand there.
-use Rattle.std.proofs.Common.{◌≡◌, ℕ, ◌+◌, ◌<◌, ◌≤◌, List, [], ◌∷◌, ◌++◌, Bool, true, false, None, Option, Some, refl}
-use Rattle.std.proofs.Common.{sym, ap, ◌∙◌, subst, arith}
+use Rattle.std.proofs.Common.{◌≡◌, ℕ, ◌+◌, ◌<◌, ◌≤◌, List, [], ◌∷◌, ◌++◌, Bool, true, None, Option, Some, refl}
+use Rattle.std.proofs.Common.{sym, ap, ◌∙◌, subst, arith, false}
 use Rattle.std.specs.Prelude.{cond}
 use Rattle.pli_typing.specs.TypedTree as Y
 use Rattle.pli_meaning.specs.Control.{Label}
@@ -22,11 +22,12 @@ use Rattle.counter_runs.proofs.Known.{array_told, number_told}
 use Rattle.counter_runs.proofs.Limits.{limit_size}
 use Rattle.counter_runs.proofs.Turns.{coded, starts_code}
 use Rattle.counter_runs.proofs.Words.{begun_telling}
-use Rattle.number_runs.specs.Knowledge.{AreStandingWith, HasFrame, IsHome, IsReady, KnowsCalls, KnowsPuts, KnowsRaises}
-use Rattle.number_runs.specs.Knowledge.{StandingWith}
-use Rattle.number_runs.specs.Numbers.{Scope, bounds_known, type_known, without_given}
+use Rattle.number_runs.specs.Knowledge.{AreStandingWith, HasFrame, IsHome, IsReady, IsFree, KnowsGivenCalls}
+use Rattle.number_runs.specs.Knowledge.{StandingWith, KnowsAroundTexts, KnowsCalls, KnowsRaises, KnowsPuts}
+use Rattle.number_runs.specs.Numbers.{Scope, bounds_known, type_known, without_located}
 use Rattle.number_runs.proofs.Narrow.{narrow_told}
-use Rattle.number_runs.proofs.Received.{parameter_told}
+use Rattle.number_runs.proofs.Received.{parameter_told, stored_untold}
+use Rattle.number_runs.proofs.Waiting.{waiting_without, waiting_unlocated}
 
 -- ---- words in which nothing waits
 
@@ -74,10 +75,29 @@ home_told φ φs waits b h =
       };
     }
 
+given_told :
+    {s : Scope} {k : Block} {φ : Layer} {φs : List Layer} {own : List Label} {most left' : ℕ}
+    (waits : ℕ → Option ℕ) → KnowsGivenCalls s k φ φs own most left' →
+    KnowsGivenCalls s (telling waits φ φs k) (with_waits waits φ) φs own most left'
+given_told {k = k} {φ = φ} {φs = φs} waits g =
+    record {
+      functions = λ words waits' labels line level n need ways some stored.
+          g.functions words waits' labels line level n need ways some (stored_untold waits φ φs k.first ways stored);
+      procedures = λ words waits' labels level n line index need ways some stored.
+          g.procedures words waits' labels level n line index need ways some
+          (stored_untold waits φ φs k.first ways stored);
+    }
+
+-- words that tell what the newest layer tells already change nothing
+pub telling_same :
+    (k : Block) (φ : Layer) (φs : List Layer) → k.first.control.layers ≡ φ ∷ φs → telling φ.waits φ φs k ≡ k
+telling_same k φ φs newest =
+    ap (λ ls. record k { first = record k.first { control = record k.first.control { layers = ls } } }) (sym newest)
+
 pub ready_told :
     {s : Scope} {valued : Bool} {k : Block} {labels : List Label} {most left' : ℕ}
-    (r : IsReady s valued k labels most left') (c : s.counts ≡ true) → s.gives ≡ false → (waits : ℕ → Option ℕ)
-    (behind : ℕ) → ((n : ℕ) → behind ≤ n → waits n ≡ None) →
+    (r : IsReady s valued k labels most left') (c : s.counts ≡ true) → s.locates ≡ false → (waits : ℕ → Option ℕ)
+    (behind : ℕ) → IsFree waits behind →
     IsReady s valued (telling waits (r.loops c).layer (r.loops c).others k) labels most left'
 ready_told {s} {k = k} r c none waits behind free =
     let l = r.loops c in
@@ -93,8 +113,10 @@ ready_told {s} {k = k} r c none waits behind free =
       narrows = λ may x is. narrow_told k l.layer l.others waits l.newest x (type_known s x) (r.narrows may x is);
       parameters = λ x is. parameter_told k l.layer l.others waits l.newest x (r.parameters x is);
       calls = l.calls waits;
-      given = λ may. absurd (cc (sym none ∙ may));
+      based = λ may. absurd (cc (sym none ∙ may));
       jumps = l.jumps waits;
+      texts = l.texts waits;
+      signals = l.signals waits;
       puts = l.puts waits;
       loops = λ c'. record {
         layer = with_waits waits l.layer;
@@ -105,7 +127,10 @@ ready_told {s} {k = k} r c none waits behind free =
         free = free;
         raises = l.raises;
         calls = l.calls;
+        given = λ may. given_told waits (l.given may);
         jumps = l.jumps;
+        texts = l.texts;
+        signals = l.signals;
         puts = l.puts;
       };
       room = r.room;
@@ -115,53 +140,70 @@ ready_told {s} {k = k} r c none waits behind free =
 -- in which its frame has as many words left as it had
 pub frame_told :
     {s : Scope} {valued : Bool} {k : Block} {labels : List Label} {most left' : ℕ}
-    (r : IsReady s valued k labels most left') (c : s.counts ≡ true) (none : s.gives ≡ false) (waits : ℕ → Option ℕ)
-    (behind : ℕ) (free : (n : ℕ) → behind ≤ n → waits n ≡ None) (words count : ℕ) → behind ≤ words →
+    (r : IsReady s valued k labels most left') (c : s.counts ≡ true) (none : s.locates ≡ false) (waits : ℕ → Option ℕ)
+    (behind : ℕ) (free : IsFree waits behind) (words count : ℕ) → behind ≤ words →
     words + count ≤ (r.loops c).layer.words →
     HasFrame (ready_told r c none waits behind free) words count
 unfolding ready_told
 frame_told r c none waits behind free words count low room c' = (low, room)
 
--- ---- where calls have no arguments
+-- ---- where nothing that is BASED is reached
 
-raises_without :
+raises_unlocated :
     {s : Scope} {k : Block} {own : List Label} {most : ℕ} → KnowsRaises s k own most →
-    KnowsRaises (without_given s) k own most
-raises_without h = record { overflow = h.overflow; divisor = h.divisor; subscript = h.subscript }
+    KnowsRaises (without_located s) k own most
+raises_unlocated h = record { overflow = h.overflow; divisor = h.divisor; subscript = h.subscript }
 
-calls_without :
+calls_unlocated :
     {s : Scope} {k : Block} {own : List Label} {most left' : ℕ} → KnowsCalls s k own most left' →
-    KnowsCalls (without_given s) k own most left'
-calls_without h = record { functions = h.functions; procedures = h.procedures }
+    KnowsCalls (without_located s) k own most left'
+calls_unlocated h = record { functions = h.functions; procedures = h.procedures }
 
-puts_without : {s : Scope} {k : Block} {most : ℕ} → KnowsPuts s k most → KnowsPuts (without_given s) k most
-puts_without h = record { numbers = h.numbers; error = h.error; lists = h.lists }
+around_unlocated :
+    {s : Scope} {k : Block} {own : List Label} {most : ℕ} → KnowsAroundTexts s k own most →
+    KnowsAroundTexts (without_located s) k own most
+around_unlocated h =
+    record {
+      constants = h.constants;
+      errors = h.errors;
+      waits = λ words set line entries. waiting_unlocated (h.waits words set line entries);
+    }
 
-home_without :
+given_unlocated :
+    {s : Scope} {k : Block} {layer : Layer} {others : List Layer} {own : List Label} {most left' : ℕ} →
+    KnowsGivenCalls s k layer others own most left' → KnowsGivenCalls (without_located s) k layer others own most left'
+given_unlocated h = record { functions = h.functions; procedures = h.procedures }
+
+puts_unlocated : {s : Scope} {k : Block} {most : ℕ} → KnowsPuts s k most → KnowsPuts (without_located s) k most
+puts_unlocated h = record { numbers = h.numbers; error = h.error; lists = h.lists }
+
+home_unlocated :
     {s : Scope} {valued : Bool} {k : Block} {left' : ℕ} → IsHome s valued k left' →
-    IsHome (without_given s) valued k left'
-home_without h =
+    IsHome (without_located s) valued k left'
+home_unlocated h =
     record { level = h.level; own = h.own; block = h.block; returns = h.returns; values = h.values }
 
 -- as much else is known
-pub ready_without :
+pub ready_unlocated :
     {s : Scope} {valued : Bool} {k : Block} {labels : List Label} {most left' : ℕ} →
-    IsReady s valued k labels most left' → IsReady (without_given s) valued k labels most left'
-ready_without r =
+    IsReady s valued k labels most left' → IsReady (without_located s) valued k labels most left'
+ready_unlocated r =
     record {
       begun = r.begun;
       acts = r.acts;
       turns = r.turns;
       held = r.held;
-      raises = raises_without r.raises;
+      raises = raises_unlocated r.raises;
       variables = r.variables;
       arrays = r.arrays;
       narrows = r.narrows;
       parameters = r.parameters;
-      calls = calls_without r.calls;
-      given = λ may. absurd (cc may);
+      calls = calls_unlocated r.calls;
+      based = λ may. absurd (cc may);
       jumps = r.jumps;
-      puts = λ may. puts_without (r.puts may);
+      signals = r.signals;
+      texts = λ may. around_unlocated (r.texts may);
+      puts = λ may. puts_unlocated (r.puts may);
       loops = λ may. let l = r.loops may in record {
         layer = l.layer;
         others = l.others;
@@ -169,21 +211,24 @@ ready_without r =
         few = l.few;
         behind = l.behind;
         free = l.free;
-        raises = λ waits. raises_without (l.raises waits);
-        calls = λ waits. calls_without (l.calls waits);
+        raises = λ waits. raises_unlocated (l.raises waits);
+        calls = λ waits. calls_unlocated (l.calls waits);
+        given = λ may'. given_unlocated (l.given may');
         jumps = l.jumps;
-        puts = λ waits may'. puts_without (l.puts waits may');
+        signals = l.signals;
+        texts = λ waits may'. around_unlocated (l.texts waits may');
+        puts = λ waits may'. puts_unlocated (l.puts waits may');
       };
       room = r.room;
-      home = λ may. home_without (r.home may);
+      home = λ may. home_unlocated (r.home may);
     }
 
-pub frame_without :
+pub frame_unlocated :
     {s : Scope} {valued : Bool} {k : Block} {labels : List Label} {most left' : ℕ}
     (r : IsReady s valued k labels most left') (words count : ℕ) → HasFrame r words count →
-    HasFrame (ready_without r) words count
-unfolding ready_without
-frame_without r words count h c = h c
+    HasFrame (ready_unlocated r) words count
+unfolding ready_unlocated
+frame_unlocated r words count h c = h c
 
 -- ---- the statements of a turn
 
@@ -211,3 +256,10 @@ turn_stands words k c index step at =
     (placed_back starts turns
     (placed_back one (starts ++ turns)
     (subst (Placed k.call.surroundings.links k.call.code index) (coded words k c step) at))))))
+
+pub low_unlocated :
+    {s : Scope} {valued : Bool} {k : Block} {labels : List Label} {most left' : ℕ}
+    (r : IsReady s valued k labels most left') (words : ℕ) → ((c : s.counts ≡ true) → (r.loops c).behind ≤ words) →
+    (c : s.counts ≡ true) → ((ready_unlocated r).loops c).behind ≤ words
+unfolding ready_unlocated
+low_unlocated r words low c = low c

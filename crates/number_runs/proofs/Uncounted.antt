@@ -1,8 +1,10 @@
--- Where no loop may count, and no call has an argument, statements set no words of the frame aside.
+-- Where no loop may count, no call has an argument, and nothing that is BASED is reached, statements set no words of
+-- the frame aside.
 use Rattle.std.proofs.Common.{◌≡◌, ◌⊎◌, inl, inr, ℕ, ◌≤◌, List, [], ◌++◌, true, false, refl, sym, ◌∙◌, arith}
-use Rattle.std.specs.Prelude.{◌&&◌, ◌||◌, ◌==◌, Bool, max}
+use Rattle.std.specs.Prelude.{◌&&◌, ◌||◌, ◌==◌, Bool, max, suc}
 use Rattle.std.proofs.lemmas.Bool.{and_parts, or_cases}
 use Rattle.pli_typing.specs.TypedTree as Y
+use Rattle.pli_coding.specs.Expressions.{argument_count}
 use Rattle.pli_meaning.specs.Control.{Label}
 use Rattle.pli_meaning.specs.DeclaredShapes.{variables_of_block}
 use Rattle.pli_meaning.specs.Executing.{labels_in}
@@ -10,16 +12,19 @@ use Rattle.pli_coding.specs.Environments.{Environment, none_taken}
 use Rattle.pli_coding.specs.Registers.{held_registers}
 use Rattle.pli_coding.specs.Statements.{block_takes, block_words, stmt_takes, stmts_take}
 use Rattle.number_runs.specs.Counting.{is_count}
-use Rattle.number_runs.specs.Narrow.{has_precision, is_bit}
-use Rattle.number_runs.specs.Numbers.{Scope, is_argument, is_fixed, is_number, is_reference, is_test, without_given}
-use Rattle.number_runs.specs.Numbers.{is_narrow_with, reference_sets}
+use Rattle.number_runs.specs.Narrow.{has_precision, is_bit, is_text_type}
+use Rattle.number_runs.specs.Numbers.{Scope, are_arguments, gives_lists, is_fixed, is_number, is_reference, is_test}
+use Rattle.number_runs.specs.Numbers.{is_narrow_with, reference_sets, is_text, without_given, IsBare, without_located}
 use Rattle.number_runs.specs.Statements.{are_statements, is_line, is_statement, is_stored, statement_needs}
+use Rattle.number_runs.specs.Statements.{is_allocation, is_freeing}
 use Rattle.number_runs.specs.Statements.{is_narrowed, statement_sets, statements_need, statements_set, stored_sets}
 use Rattle.number_runs.specs.Variables.{are_plain}
-use Rattle.number_runs.proofs.Takes.{Takes, block_sets, plain_known, statement_taken, statements_taken}
+use Rattle.number_runs.proofs.Takes.{Takes, statement_taken, statements_taken}
+use Rattle.number_runs.proofs.BlocksTaken.{block_sets, plain_known}
+use Rattle.number_runs.proofs.Based.{allocation_is, freeing_is}
 use Rattle.number_runs.proofs.Unset.{narrow_unset, number_unset, reference_unset, test_unset}
 
-stored_unset : (s : Scope) (x : Y.Stored) → s.gives ≡ false → is_stored s x ≡ true → stored_sets x ≡ 0
+stored_unset : (s : Scope) (x : Y.Stored) → IsBare s → is_stored s x ≡ true → stored_sets x ≡ 0
 stored_unset s (Y.StoredNumber precision x) none h =
     number_unset s x none (and_parts (precision == 31) (is_number s x) h).1
 stored_unset s (Y.StoredText x) none h = refl
@@ -28,7 +33,7 @@ stored_unset s (Y.StoredPointer x) none h = refl
 stored_unset s (Y.StoredOffset x) none h = refl
 
 narrowed_unset :
-    (s : Scope) (target : Y.Reference) (source : Y.Stored) → s.gives ≡ false → is_narrowed s target source ≡ true →
+    (s : Scope) (target : Y.Reference) (source : Y.Stored) → IsBare s → is_narrowed s target source ≡ true →
     max (stored_sets source) (reference_sets target) ≡ 0
 narrowed_unset s target (Y.StoredNumber precision x) none h =
     let narrow = is_narrow_with s (has_precision precision) target in
@@ -42,12 +47,16 @@ narrowed_unset s target (Y.StoredBit x) none h =
     let m = test_unset s x none a.1 in
     let n = narrow_unset s is_bit target a.0 in
     omega (arith, m, n)
-narrowed_unset s target (Y.StoredText x) none h = absurd (cc h)
+narrowed_unset s target (Y.StoredText x) none h =
+    let narrow = is_narrow_with s is_text_type target in
+    let one = is_text (without_given s) x in
+    let n = narrow_unset s is_text_type target (and_parts narrow one (and_parts s.texts (narrow && one) h).1).0 in
+    omega (arith, n)
 narrowed_unset s target (Y.StoredPointer x) none h = absurd (cc h)
 narrowed_unset s target (Y.StoredOffset x) none h = absurd (cc h)
 
 assigned_unset :
-    (s : Scope) (target : Y.Reference) (source : Y.Stored) → s.gives ≡ false →
+    (s : Scope) (target : Y.Reference) (source : Y.Stored) → IsBare s →
     ((is_reference s target && is_stored s source) ≡ true) ⊎ (is_narrowed s target source ≡ true) →
     max (stored_sets source) (reference_sets target) ≡ 0
 assigned_unset s target source none (inl h) =
@@ -60,7 +69,7 @@ assigned_unset s target source none (inr h) = narrowed_unset s target source non
 mutual
   statement_uncounted :
       (s : Scope) (valued : Bool) (labels : List Label) (x : Y.Stmt) →
-      (s.counts ≡ false) × (s.gives ≡ false) →
+      (s.counts ≡ false) × IsBare s →
       is_statement s valued labels x ≡ true → statement_sets x ≡ 0
   statement_uncounted s valued labels (Y.If condition unit line) none h =
       let inner = is_statement s valued labels unit in
@@ -90,8 +99,9 @@ mutual
       let n = statements_uncounted s valued (labels_in body ++ labels) body none b.1 in
       omega (arith, m, n)
   statement_uncounted s valued labels (Y.DoCount counter start limit step condition body line) none h =
-      let inner = are_statements (without_given s) valued (labels_in body ++ labels) body in
-      let counts' = is_count (without_given s) counter start limit step condition in
+      let u = without_located s in
+      let inner = are_statements u valued (labels_in body ++ labels) body in
+      let counts' = is_count u counter start limit step condition in
       let a = and_parts (is_line line) (s.counts && (counts' && inner)) h in
       let b = and_parts s.counts (counts' && inner) a.1 in
       absurd (cc (sym none.0 ∙ b.0))
@@ -105,8 +115,12 @@ mutual
   statement_uncounted s valued labels (Y.OnUnit condition unit line) none h = refl
   statement_uncounted s valued labels (Y.Signal condition line) none h = refl
   statement_uncounted s valued labels (Y.Revert condition line) none h = refl
-  statement_uncounted s valued labels (Y.Allocate all line) none h = refl
-  statement_uncounted s valued labels (Y.Free all line) none h = refl
+  statement_uncounted s valued labels (Y.Allocate all line) none h =
+      let a = and_parts (is_line line) (is_allocation s all) h in
+      absurd (cc (sym none.1.1 ∙ (allocation_is s all a.1).may))
+  statement_uncounted s valued labels (Y.Free all line) none h =
+      let a = and_parts (is_line line) (is_freeing s all) h in
+      absurd (cc (sym none.1.1 ∙ (freeing_is s all a.1).may))
   statement_uncounted s valued labels (Y.Get skip pairs line) none h = refl
   statement_uncounted s valued labels (Y.Put skip pairs line) none h = refl
   statement_uncounted s valued labels (Y.Null line) none h = refl
@@ -117,13 +131,12 @@ mutual
       assigned_unset s target source none.1 (or_cases one other a.1)
   statement_uncounted s valued labels (Y.CallProcedure (Y.Calling number level Y.NoArgument) line) none h = refl
   statement_uncounted s valued labels
-      (Y.CallProcedure (Y.Calling number level (Y.ArgumentThen argument Y.NoArgument)) line) none h =
-      let known = s.is_given_procedure level number && is_argument (without_given s) argument in
-      let a = and_parts (is_line line) (s.gives && known) h in
-      absurd (cc (sym none.1 ∙ (and_parts s.gives known a.1).0))
-  statement_uncounted s valued labels
-      (Y.CallProcedure (Y.Calling number level (Y.ArgumentThen argument (Y.ArgumentThen second rest))) line) none h =
-      absurd (cc h)
+      (Y.CallProcedure (Y.Calling number level (Y.ArgumentThen first rest)) line) none h =
+      let taken = s.is_given_procedure (suc (argument_count rest)) level number in
+      let given = are_arguments (without_located s) (Y.ArgumentThen first rest) in
+      let a = and_parts (is_line line) (gives_lists s && (taken && given)) h in
+      let b = and_parts (gives_lists s) (taken && given) a.1 in
+      absurd (cc (sym none.1.0 ∙ (and_parts s.gives s.counts b.0).0))
   statement_uncounted s valued labels (Y.Return line) none h = refl
   statement_uncounted s valued labels (Y.ReturnValue type source line) none h =
       let rest = is_fixed type && is_stored s source in
@@ -136,7 +149,7 @@ mutual
 
   statements_uncounted :
       (s : Scope) (valued : Bool) (labels : List Label) (xs : Y.Stmts) →
-      (s.counts ≡ false) × (s.gives ≡ false) →
+      (s.counts ≡ false) × IsBare s →
       are_statements s valued labels xs ≡ true → statements_set xs ≡ 0
   statements_uncounted s valued labels (Y.EndOfList own) none h = refl
   statements_uncounted s valued labels (Y.StmtThen own first rest) none h =
@@ -148,7 +161,7 @@ mutual
 -- so they take registers alone
 pub statement_takes :
     (s : Scope) (valued : Bool) (labels : List Label) (x : Y.Stmt) →
-    (s.counts ≡ false) × (s.gives ≡ false) →
+    (s.counts ≡ false) × IsBare s →
     is_statement s valued labels x ≡ true → statement_needs x ≤ held_registers →
     Takes (statement_needs x) none_taken (stmt_takes none_taken x)
 statement_takes s valued labels x none h fits =
@@ -160,7 +173,7 @@ statement_takes s valued labels x none h fits =
 
 pub statements_take :
     (s : Scope) (valued : Bool) (labels : List Label) (xs : Y.Stmts) →
-    (s.counts ≡ false) × (s.gives ≡ false) →
+    (s.counts ≡ false) × IsBare s →
     are_statements s valued labels xs ≡ true → statements_need xs ≤ held_registers →
     Takes (statements_need xs) none_taken (stmts_take none_taken xs)
 statements_take s valued labels xs none h fits =
@@ -173,7 +186,7 @@ statements_take s valued labels xs none h fits =
 -- and the frame of their block has no words
 pub block_taken :
     (s : Scope) (valued : Bool) (program : Y.Program) (block : ℕ) (body : Y.Stmts) →
-    (s.counts ≡ false) × (s.gives ≡ false) →
+    (s.counts ≡ false) × IsBare s →
     are_plain (variables_of_block program block) ≡ true →
     are_statements s valued (labels_in body ++ []) body ≡ true → statements_need body ≤ held_registers →
     Takes (statements_need body) none_taken (block_takes program block body)
@@ -186,7 +199,7 @@ block_taken s valued program block body none plain h fits =
 
 pub words_none :
     (s : Scope) (valued : Bool) (e : Environment) (block : ℕ) (body : Y.Stmts) →
-    (s.counts ≡ false) × (s.gives ≡ false) →
+    (s.counts ≡ false) × IsBare s →
     are_plain (variables_of_block e.program block) ≡ true →
     are_statements s valued (labels_in body ++ []) body ≡ true → statements_need body ≤ held_registers →
     block_words e block body ≡ 0

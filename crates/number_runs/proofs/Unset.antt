@@ -1,21 +1,25 @@
--- Where calls have no arguments numbers set no words of the frame aside.
+-- Where calls have no arguments, and nothing that is BASED is reached, numbers set no words of the frame aside.
 use Rattle.std.proofs.Common.{◌≡◌, ◌⊎◌, inl, inr, Bool, true, false, refl, sym, ap, ◌∙◌, arith}
-use Rattle.std.specs.Prelude.{◌&&◌, ◌==◌}
+use Rattle.std.specs.Prelude.{◌&&◌, ◌==◌, suc}
 use Rattle.std.proofs.lemmas.Bool.{and_parts, or_cases}
 use Rattle.pli_typing.specs.TypedTree as Y
-use Rattle.number_runs.specs.Numbers.{Scope, are_numbers, call_sets, is_argument, is_element, is_number, is_reference}
+use Rattle.pli_coding.specs.Expressions.{argument_count}
+use Rattle.number_runs.specs.Numbers.{Scope, are_arguments, are_numbers, call_sets, gives_lists, is_element}
+use Rattle.number_runs.specs.Numbers.{is_number, is_reference}
 use Rattle.number_runs.specs.Numbers.{is_test, may_calculate, number_sets, numbers_set, reference_sets, test_sets}
-use Rattle.number_runs.specs.Numbers.{is_narrow_with, is_wider, without_given}
+use Rattle.number_runs.specs.Numbers.{is_narrow_with, is_wider, IsBare, without_located}
 use Rattle.number_runs.specs.Narrow.{is_number_type}
+use Rattle.number_runs.proofs.Based.{through_is}
 use Rattle.number_runs.proofs.Narrow.{narrow_with_is}
 
 call_unset :
-    (s : Scope) (c : Y.Call) → s.gives ≡ false → is_number s (Y.NumberFrom c) ≡ true → call_sets c ≡ 0
+    (s : Scope) (c : Y.Call) → IsBare s → is_number s (Y.NumberFrom c) ≡ true → call_sets c ≡ 0
 call_unset s (Y.Calling number level Y.NoArgument) none h = refl
-call_unset s (Y.Calling number level (Y.ArgumentThen argument Y.NoArgument)) none h =
-    let known = s.is_given_function level number && is_argument (without_given s) argument in
-    absurd (cc (sym none ∙ (and_parts s.gives known h).0))
-call_unset s (Y.Calling number level (Y.ArgumentThen argument (Y.ArgumentThen second rest))) none h = absurd (cc h)
+call_unset s (Y.Calling number level (Y.ArgumentThen first rest)) none h =
+    let taken = s.is_given_function (suc (argument_count rest)) level number in
+    let given = are_arguments (without_located s) (Y.ArgumentThen first rest) in
+    let a = and_parts (gives_lists s) (taken && given) h in
+    absurd (cc (sym none.0 ∙ (and_parts s.gives s.counts a.0).0))
 
 -- nor does a scalar of fewer bits
 pub narrow_unset :
@@ -31,7 +35,7 @@ named_unset s r (inl h) one = one h
 named_unset s r (inr h) one = narrow_unset s is_number_type r h
 
 mutual
-  pub number_unset : (s : Scope) (x : Y.Number) → s.gives ≡ false → is_number s x ≡ true → number_sets x ≡ 0
+  pub number_unset : (s : Scope) (x : Y.Number) → IsBare s → is_number s x ≡ true → number_sets x ≡ 0
   number_unset s (Y.NumberConstant n) none h = refl
   number_unset s (Y.NumberIn r) none h =
       named_unset s r (or_cases (is_reference s r) (is_narrow_with s is_number_type r) h)
@@ -67,7 +71,7 @@ mutual
       let n = number_unset s right none a.1 in
       omega (arith, m, n)
   number_unset s (Y.NumberOfText x) none h = refl
-  number_unset s (Y.NumberOfBit x) none h = refl
+  number_unset s (Y.NumberOfBit x) none h = test_unset s x none (and_parts s.narrows (is_test s x) h).1
   number_unset s (Y.LengthOf x) none h = refl
   number_unset s (Y.IndexOf x y) none h = refl
   number_unset s (Y.VerifyOf x y) none h = refl
@@ -78,7 +82,7 @@ mutual
   number_unset s Y.OnCode none h = refl
 
   pub reference_unset :
-      (s : Scope) (r : Y.Reference) → s.gives ≡ false → is_reference s r ≡ true → reference_sets r ≡ 0
+      (s : Scope) (r : Y.Reference) → IsBare s → is_reference s r ≡ true → reference_sets r ≡ 0
   reference_unset s (Y.Referring v Y.NotLocated part Y.NoNumber) none h = refl
   reference_unset s (Y.Referring v Y.NotLocated part (Y.NumberThen subscript Y.NoNumber)) none h =
       let a = and_parts (is_element s v part) (is_number s subscript && is_wider s subscript) h in
@@ -86,11 +90,12 @@ mutual
       omega (arith, n)
   reference_unset s (Y.Referring v Y.NotLocated part (Y.NumberThen first (Y.NumberThen second rest))) none h =
       absurd (cc h)
-  reference_unset s (Y.Referring v (Y.LocatedBy p) part Y.NoNumber) none h = absurd (cc h)
+  reference_unset s (Y.Referring v (Y.LocatedBy p) part Y.NoNumber) none h =
+      absurd (cc (sym none.1 ∙ (through_is s v p part h).may))
   reference_unset s (Y.Referring v (Y.LocatedBy p) part (Y.NumberThen first rest)) none h = absurd (cc h)
 
   numbers_unset :
-      (s : Scope) (xs : Y.Numbers) → s.gives ≡ false → are_numbers s xs ≡ true → numbers_set xs ≡ 0
+      (s : Scope) (xs : Y.Numbers) → IsBare s → are_numbers s xs ≡ true → numbers_set xs ≡ 0
   numbers_unset s Y.NoNumber none h = refl
   numbers_unset s (Y.NumberThen first rest) none h =
       let a = and_parts (is_number s first) (are_numbers s rest) h in
@@ -98,27 +103,27 @@ mutual
       let n = numbers_unset s rest none a.1 in
       omega (arith, m, n)
 
-pub test_unset : (s : Scope) (x : Y.Bit) → s.gives ≡ false → is_test s x ≡ true → test_sets x ≡ 0
-test_unset s (Y.BitConstant b) none h = refl
-test_unset s (Y.Negated x) none h = test_unset s x none h
-test_unset s (Y.Combined operator left right) none h =
-    let a = and_parts (is_test s left) (is_test s right) h in
-    let m = test_unset s left none a.0 in
-    let n = test_unset s right none a.1 in
-    omega (arith, m, n)
-test_unset s (Y.NumbersCompared comparison left right) none h =
-    let a = and_parts (is_number s left) (is_number s right) h in
-    let m = number_unset s left none a.0 in
-    let n = number_unset s right none a.1 in
-    omega (arith, m, n)
-test_unset s (Y.BitsCompared comparison left right) none h =
-    let a = and_parts (is_test s left) (is_test s right) h in
-    let m = test_unset s left none a.0 in
-    let n = test_unset s right none a.1 in
-    omega (arith, m, n)
-test_unset s (Y.BitIn r) none h = refl
-test_unset s (Y.BitFrom c) none h = refl
-test_unset s (Y.BitOfText x) none h = refl
-test_unset s (Y.TextsCompared comparison left right) none h = refl
-test_unset s (Y.PointersCompared equal left right) none h = refl
-test_unset s (Y.OffsetsCompared equal left right) none h = refl
+  pub test_unset : (s : Scope) (x : Y.Bit) → IsBare s → is_test s x ≡ true → test_sets x ≡ 0
+  test_unset s (Y.BitConstant b) none h = refl
+  test_unset s (Y.Negated x) none h = test_unset s x none h
+  test_unset s (Y.Combined operator left right) none h =
+      let a = and_parts (is_test s left) (is_test s right) h in
+      let m = test_unset s left none a.0 in
+      let n = test_unset s right none a.1 in
+      omega (arith, m, n)
+  test_unset s (Y.NumbersCompared comparison left right) none h =
+      let a = and_parts (is_number s left) (is_number s right) h in
+      let m = number_unset s left none a.0 in
+      let n = number_unset s right none a.1 in
+      omega (arith, m, n)
+  test_unset s (Y.BitsCompared comparison left right) none h =
+      let a = and_parts (is_test s left) (is_test s right) h in
+      let m = test_unset s left none a.0 in
+      let n = test_unset s right none a.1 in
+      omega (arith, m, n)
+  test_unset s (Y.BitIn r) none h = refl
+  test_unset s (Y.BitFrom c) none h = refl
+  test_unset s (Y.BitOfText x) none h = refl
+  test_unset s (Y.TextsCompared comparison left right) none h = refl
+  test_unset s (Y.PointersCompared equal left right) none h = refl
+  test_unset s (Y.OffsetsCompared equal left right) none h = refl

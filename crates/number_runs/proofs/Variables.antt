@@ -1,13 +1,19 @@
 -- Variables that the class admits: references to all of one, and what is declared.
-use Rattle.std.proofs.Common.{◌≡◌, ℕ, List, [], ◌∷◌, Option, None, Some, true, refl, ap, ◌∙◌}
+use Rattle.std.proofs.Common.{◌≡◌, ℕ, suc, List, [], ◌∷◌, length, Option, None, Some, true, refl, sym, ap, ◌∙◌}
 use Rattle.std.specs.Prelude.{◌&&◌, ◌==◌}
 use Rattle.std.proofs.lemmas.Bool.{and_parts, eqb-true}
 use Rattle.pli_typing.specs.TypedTree as Y
+use Rattle.pli_coding.specs.Expressions.{argument_count}
 use Rattle.expression_runs.specs.Variables.{Spot, number_declared, number_leaf, variable_of, whole, whole_part}
 use Rattle.argument_runs.specs.Parameters.{parameter, parameter_declared, parameter_of}
-use Rattle.number_runs.specs.Numbers.{Scope, has_none, is_absent, is_automatic, is_fixed, is_given, is_known}
+use Rattle.activation_relation.specs.Layers.{Point}
+use Rattle.list_calls.specs.Arguments.{ByValue, Way, arguments_of}
+use Rattle.list_calls.specs.ListKnown.{AreStored}
+use Rattle.number_runs.specs.Numbers.{Scope, are_arguments}
+use Rattle.number_runs.specs.Numbers.{has_none, is_absent, is_automatic, is_fixed, is_given, is_known}
 use Rattle.number_runs.specs.Numbers.{is_argument, is_number, is_one_word, is_parameter, is_parameter_class, is_plain}
 use Rattle.number_runs.specs.Numbers.{is_received, is_scalar, is_variable, is_word, spot_of}
+use Rattle.number_runs.specs.Statements.{behind_stored, is_stored}
 
 -- ---- references
 
@@ -177,3 +183,43 @@ argument_is s (Y.ByCopy type (Y.StoredOffset x)) h = absurd (cc h)
 argument_is s (Y.ByReference r) h = absurd (cc h)
 argument_is s (Y.ByOffsetInParameter p parameter) h = absurd (cc h)
 argument_is s (Y.ByOffsetInAutomatic p) h = absurd (cc h)
+
+-- a list of them
+abbrev pub ways_of : (s : Scope) → (xs : Y.Arguments) → are_arguments s xs ≡ true → List Way
+ways_of s Y.NoArgument h = []
+ways_of s (Y.ArgumentThen first rest) h =
+    let a = and_parts (is_argument s first) (are_arguments s rest) h in
+    ByValue (argument_is s first a.0).number ∷ ways_of s rest a.1
+
+pub ways_are : (s : Scope) (xs : Y.Arguments) (h : are_arguments s xs ≡ true) → arguments_of (ways_of s xs h) ≡ xs
+ways_are s Y.NoArgument h = refl
+ways_are s (Y.ArgumentThen first rest) h =
+    let a = and_parts (is_argument s first) (are_arguments s rest) h in
+    let x = argument_is s first a.0 in
+    ap (λ q. Y.ArgumentThen q (arguments_of (ways_of s rest a.1))) (sym x.is)
+    ∙ ap (λ q. Y.ArgumentThen first q) (ways_are s rest a.1)
+
+pub ways_many :
+    (s : Scope) (xs : Y.Arguments) (h : are_arguments s xs ≡ true) → length (ways_of s xs h) ≡ argument_count xs
+ways_many s Y.NoArgument h = refl
+ways_many s (Y.ArgumentThen first rest) h =
+    let a = and_parts (is_argument s first) (are_arguments s rest) h in
+    ap suc (ways_many s rest a.1)
+
+-- nothing is passed by its name
+pub ways_stored :
+    (s : Scope) (xs : Y.Arguments) (h : are_arguments s xs ≡ true) (p : Point) → AreStored p (ways_of s xs h)
+ways_stored s Y.NoArgument h p = tt
+ways_stored s (Y.ArgumentThen first rest) h p =
+    ways_stored s rest (and_parts (is_argument s first) (are_arguments s rest) h).1 p
+
+-- ---- what is stored
+
+-- a number waits in a register
+pub behind_number :
+    (s : Scope) (x : Y.Stored) (need : ℕ) → is_stored s x ≡ true → behind_stored x need ≡ suc need
+behind_number s (Y.StoredNumber precision x) need h = refl
+behind_number s (Y.StoredText x) need h = absurd (cc h)
+behind_number s (Y.StoredBit x) need h = absurd (cc h)
+behind_number s (Y.StoredPointer x) need h = absurd (cc h)
+behind_number s (Y.StoredOffset x) need h = absurd (cc h)

@@ -85,7 +85,7 @@ one_declared w p φ φs e place index more d is table h =
       limit = le-leb _ _ (omega (arith, limit, counts));
     }
 
-counts_more :
+pub counts_more :
     (l : Living) (ls : List Living) (n : ℕ) →
     (if l.owner == 0 then automatic_in_use ls else n + automatic_in_use ls) ≤ automatic_in_use ls + n
 counts_more l ls n = split (l.owner == 0)
@@ -124,7 +124,7 @@ next_room w p φ φs e place index more d is h =
       limit = omega (arith, limit, now, counts);
     }
 
-words_declared :
+pub words_declared :
     (w : Surroundings) (p : Point) (φ : Layer) (φs : List Layer) (e : Environment) (place index : ℕ)
     (ds : List Y.DeclaredVariable) → are_plain ds ≡ true → AreTabled e p.places.signatures ds →
     HaveRoom w p φ φs place (bytes_of ds) → AreDeclared w p φ φs (words_from e place index ds)
@@ -205,13 +205,13 @@ room_fewer w p φ φs place m n less h =
 
 -- ---- what the program declares
 
-words_those :
+pub words_those :
     (e : Environment) (place index : ℕ) (ds : List Y.DeclaredVariable) → AreThose index (words_from e place index ds) ds
 words_those e place index [] = tt
 words_those e place index (d ∷ ds) =
     inl (refl, refl, words_those e (place + variable_bytes d) (index + 1) ds)
 
-words_listed :
+pub words_listed :
     (e : Environment) (place index : ℕ) (ds : List Y.DeclaredVariable) → are_plain ds ≡ true →
     AreListed e index (words_from e place index ds)
 words_listed e place index [] is = tt
@@ -276,7 +276,7 @@ words_code e line place index (d ∷ ds) h at =
 
 -- ---- one among them
 
-words_among :
+pub words_among :
     (e : Environment) (place index i : ℕ) (ds : List Y.DeclaredVariable) (d : Y.DeclaredVariable) →
     slice_get ds i ≡ Some d →
     Among (word_made e (place + bytes_before ds i) (index + i) d) (words_from e place index ds)
@@ -298,35 +298,35 @@ words_among e place index (suc i) (u ∷ ds) d is =
     (words_among e (place + variable_bytes u) (index + 1) i ds d is)))
 
 -- a variable that there is has an index below their number
-slice_less : {A : Type 0} (xs : List A) (i : ℕ) (x : A) → slice_get xs i ≡ Some x → i < length xs
+pub slice_less : {A : Type 0} (xs : List A) (i : ℕ) (x : A) → slice_get xs i ≡ Some x → i < length xs
 slice_less [] i x e = absurd (cc e)
 slice_less (y ∷ ys) zero x e = omega arith
 slice_less (y ∷ ys) (suc i) x e = let n = slice_less ys i x e in omega (arith, n)
 
-record Found (o : Option Y.DeclaredVariable) : Type 0 where
-  is : o ≡ Some (number_declared [])
+pub record Found (o : Option Y.DeclaredVariable) : Type 0 where
+  pub is : o ≡ Some (number_declared [])
 
-found : (o : Option Y.DeclaredVariable) → is_plain_if o ≡ true → Found o
+pub found : (o : Option Y.DeclaredVariable) → is_plain_if o ≡ true → Found o
 found None h = absurd (cc h)
 found (Some d) h = record { is = ap (λ d'. Some d') (plain_is d h) }
 
-record FoundArray (o : Option Y.DeclaredVariable) : Type 0 where
-  declared : Y.DeclaredVariable
-  is : o ≡ Some declared
-  array : is_array declared ≡ true
-  bounds : bounds_if o ≡ array_bounds declared
+pub record FoundArray (o : Option Y.DeclaredVariable) : Type 0 where
+  pub declared : Y.DeclaredVariable
+  pub is : o ≡ Some declared
+  pub array : is_array declared ≡ true
+  pub bounds : bounds_if o ≡ array_bounds declared
 
-found_array : (o : Option Y.DeclaredVariable) → is_array_if o ≡ true → FoundArray o
+pub found_array : (o : Option Y.DeclaredVariable) → is_array_if o ≡ true → FoundArray o
 found_array None h = absurd (cc h)
 found_array (Some d) h = record { declared = d; is = refl; array = h; bounds = refl }
 
-record FoundNarrow (o : Option Y.DeclaredVariable) : Type 0 where
-  declared : Y.DeclaredVariable
-  is : o ≡ Some declared
-  narrow : is_narrow declared ≡ true
-  type : type_if o ≡ narrow_type declared
+pub record FoundNarrow (o : Option Y.DeclaredVariable) : Type 0 where
+  pub declared : Y.DeclaredVariable
+  pub is : o ≡ Some declared
+  pub narrow : is_narrow declared ≡ true
+  pub type : type_if o ≡ narrow_type declared
 
-found_narrow : (o : Option Y.DeclaredVariable) → is_narrow_if o ≡ true → FoundNarrow o
+pub found_narrow : (o : Option Y.DeclaredVariable) → is_narrow_if o ≡ true → FoundNarrow o
 found_narrow None h = absurd (cc h)
 found_narrow (Some d) h = record { declared = d; is = refl; narrow = h; type = refl }
 
@@ -454,7 +454,7 @@ function_known w code c p q numbers x d parts known own is b =
     }
 
 -- an array that is known has the bounds of its declaration
-array_known :
+pub array_known :
     (k : Block) (x : Spot) (o : Option Y.DeclaredVariable) (f : FoundArray o) → IsKnown k x f.declared →
     IsArray k x (bounds_if o)
 array_known k x o f known =
@@ -466,7 +466,7 @@ array_known k x o f known =
     })
 
 -- and a scalar of fewer bits the type
-narrow_known :
+pub narrow_known :
     (k : Block) (x : Spot) (o : Option Y.DeclaredVariable) (f : FoundNarrow o) → IsKnown k x f.declared →
     IsScalar k x (type_if o)
 narrow_known k x o f known =

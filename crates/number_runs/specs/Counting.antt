@@ -2,7 +2,7 @@
 -- that is computed from typed trees.
 use Rattle.std.specs.Prelude.{ℕ, ◌^◌, ◌==◌, ◌&&◌, Bool, false, max, nat_lt, Option, None, Some}
 use Rattle.pli_typing.specs.TypedTree as Y
-use Rattle.number_runs.specs.Numbers.{Scope, is_number, is_variable, number_needs}
+use Rattle.number_runs.specs.Numbers.{Scope, is_number, is_variable, number_needs, number_sets}
 
 abbrev pub is_counter : Scope → Y.Counter → Bool
 is_counter s (Y.NumberCounter precision r) = (precision == 31) && is_variable s r
@@ -42,3 +42,16 @@ limit_needs (Some x) = number_needs x
 -- one more where the step overflows
 abbrev pub count_needs : Y.Value → Option Y.Number → ℕ
 count_needs start limit = max 1 (max (start_needs start) (limit_needs limit))
+
+-- ---- and how many words of the frame their lists of arguments take
+
+abbrev pub start_sets : Y.Value → ℕ
+start_sets (Y.NumberValue precision x) = number_sets x
+start_sets _ = 0
+
+abbrev pub limit_sets : Option Y.Number → ℕ
+limit_sets None = 0
+limit_sets (Some x) = number_sets x
+
+abbrev pub count_sets : Y.Value → Option Y.Number → ℕ
+count_sets start limit = max (start_sets start) (limit_sets limit)

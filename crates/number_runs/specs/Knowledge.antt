@@ -1,26 +1,30 @@
 -- What is known around the expressions and the statements of such a block.
-use Rattle.std.specs.Prelude.{ℕ, ◌+◌, ◌*◌, ◌^◌, ◌<◌, ◌≤◌, ◌≡◌, ◌∷◌, Bool, false, true, List, length, Option, None, Some}
+use Rattle.std.specs.Prelude.{ℕ, ◌+◌, ◌*◌, ◌^◌, ◌<◌, ◌≤◌, ◌≡◌, [], ◌∷◌, Bool, false, true, List, length, Option, None}
+use Rattle.std.specs.Prelude.{Some, ℤ}
+use Rattle.pli_language.specs.declared.condition.Condition.{Condition}
 use Rattle.pli_language.specs.declared.condition.Condition.TheVariants as C
 use Rattle.pli_language.specs.Tree as T
 use Rattle.pli_typing.specs.Signatures.{Fixed}
 use Rattle.pli_typing.specs.TypedTree as Y
+use Rattle.pli_coding.specs.Expressions.{argument_words}
 use Rattle.pli_meaning.specs.Control.{Label, is_among}
 use Rattle.pli_meaning.specs.StorageState.{force}
-use Rattle.pli_serving.specs.ServiceState.{EditPlace}
-use Rattle.pli_coding.specs.Assembly.{RaiseError, ReturnPlace}
+use Rattle.pli_serving.specs.ServiceState.{EditPlace, Entry}
+use Rattle.pli_coding.specs.Assembly.{ConstantBytes, RaiseError, ReturnPlace}
 use Rattle.pli_coding.specs.Environments.{BlockOwner, block_around, none_taken}
 use Rattle.pli_coding.specs.Frames.{result}
 use Rattle.pli_coding.specs.Linking.{Links, place_of}
 use Rattle.pli_coding.specs.Registers.{held_registers}
 use Rattle.pli_coding.specs.Statements.{stmt_code, stmts_code}
 use Rattle.pli_coding.specs.StaticForms.{formats_datum}
+use Rattle.activation_relation.specs.FrameLaws.{with_waits}
 use Rattle.activation_relation.specs.Landing.{is_begin}
 use Rattle.activation_relation.specs.Layers.{Layer}
 use Rattle.activation_relation.specs.ServiceLaws.{IsSystem}
 use Rattle.run_steps.specs.DataNamed.{IsPlaced}
 use Rattle.run_steps.specs.Engine.{most_code}
 use Rattle.run_steps.specs.Items.{Linked}
-use Rattle.program_runs.specs.Statements.{Block, Does, DoesWith, IsBegun, IsOwn, set_aside}
+use Rattle.program_runs.specs.Statements.{Block, Does, DoesWith, IsBegun, IsOwn, set_aside, waiting}
 use Rattle.expression_runs.specs.Assignments.{setting_around}
 use Rattle.expression_runs.specs.Laws as L
 use Rattle.expression_runs.specs.Raises.{Routines}
@@ -28,45 +32,114 @@ use Rattle.expression_runs.specs.Values.{OverflowComes, Setting}
 use Rattle.expression_runs.specs.Variables.{IsNumber, Spot}
 use Rattle.operator_runs.specs.Divisors.{ZeroDivideComes}
 use Rattle.text_runs.specs.Texts.{ErrorComes}
+use Rattle.text_runs.specs.Waiting.{over}
+use Rattle.text_values.specs.Variables.{KnowsText}
 use Rattle.edit_runs.specs.Edits.{KnowsFormats, within}
 use Rattle.program_places.specs.Laws.{IsLabel}
 use Rattle.program_places.specs.Placed.{Placed}
 use Rattle.counter_runs.specs.Words.{telling}
 use Rattle.element_runs.specs.Arrays.{IsArray}
 use Rattle.element_runs.specs.Subscripts.{SubscriptComes}
-use Rattle.argument_runs.specs.CopyFunctions.{setting_in}
 use Rattle.argument_runs.specs.Parameters.{IsParameter}
+use Rattle.list_calls.specs.Arguments.{EachGives, Way, arguments_of, setting_told}
+use Rattle.list_calls.specs.ListKnown.{AreStored}
+use Rattle.area_runs.specs.Allocations.{allocation}
+use Rattle.area_runs.specs.Based.{through}
+use Rattle.area_runs.specs.BasedAssignments as B
+use Rattle.area_assignments.specs.Copying.{copying}
+use Rattle.area_assignments.specs.Emptying.{emptying}
+use Rattle.area_freeings.specs.Freeing.{freeing}
 use Rattle.scalar_runs.specs.Scalars.{IsScalar}
 use Rattle.number_runs.specs.Numbers.{Scope, bounds_known, is_array_known, is_known, is_narrow_known, is_received}
-use Rattle.number_runs.specs.Numbers.{list_sets, type_known}
-use Rattle.number_runs.specs.Puts.{is_fixed_list, without_calls}
+use Rattle.number_runs.specs.Numbers.{gives_lists, type_known, is_area_known, is_based_known, is_pointer_known}
+use Rattle.number_runs.specs.Puts.{without_calls, is_list}
 
 -- ---- around expressions
 
 abbrev pub call_number : (level number : ℕ) → Y.Number
 call_number level n = Y.NumberFrom (Y.Calling n level Y.NoArgument)
 
--- with the copy of a number
-abbrev pub given_call : (level number : ℕ) → Y.Number → Y.Call
-given_call level n x =
-    Y.Calling n level (Y.ArgumentThen (Y.ByCopy (Y.FixedLeaf 31) (Y.StoredNumber 31 x)) Y.NoArgument)
+-- with a list of arguments
+abbrev pub given_call : (level number : ℕ) → List Way → Y.Call
+given_call level n ways = Y.Calling n level (arguments_of ways)
 
-abbrev pub given_number : (level number : ℕ) → Y.Number → Y.Number
-given_number level n x = Y.NumberFrom (given_call level n x)
+abbrev pub given_number : (level number : ℕ) → List Way → Y.Number
+given_number level n ways = Y.NumberFrom (given_call level n ways)
 
--- around an argument, where the words of the list are set aside: raises and calls do what they mean, and so does a call
--- with an argument that does
+-- nothing waits in the words from one on
+abbrev pub IsFree : (waits : ℕ → Option ℕ) → (from : ℕ) → Type 0
+IsFree waits from = (n : ℕ) → from ≤ n → waits n ≡ None
+
+-- the most words that the frame of a block has for temporaries
+abbrev pub most_set : ℕ
+most_set = 2 ^ 16
+
+-- each argument does what it means behind so many words that are set aside, whatever those before it come to
+abbrev pub GiveBehind :
+    Setting → (words need : ℕ) → (waits : ℕ → Option ℕ) → Layer → List Layer → List Way → Type 0
+GiveBehind k words need waits φ φs ways =
+    EachGives (setting_told k words waits φ φs) need (with_waits waits φ) φs words
+    (words + argument_words * length ways) waits
+    ways
+
+-- an ERROR by a service's status comes to what it means
+pub record KnowsErrors (k : Setting) : Type 0 where
+  pub text : ErrorComes (List ℕ) k
+  pub number : ErrorComes ℤ k
+  pub bit : ErrorComes Bool k
+
+-- what is known there is known while texts wait: raises and calls without arguments do what they mean
+pub record KnowsWaiting (s : Scope) (k : Setting) : Type 0 where
+  pub overflow : s.overflows ≡ true → OverflowComes k
+  pub divisor : s.divides ≡ true → ZeroDivideComes k
+  pub subscript : s.elements ≡ true → SubscriptComes k
+  pub errors : KnowsErrors k
+  pub functions : (level n : ℕ) → s.is_function level n ≡ true → L.Does k 0 (call_number level n)
+
+-- the bytes of each text constant that has a place are told there
+abbrev pub KnowsConstants : Block → Type 0
+KnowsConstants k =
+    (bytes : List ℕ) → IsPlaced (ConstantBytes bytes) k.call.surroundings.links.data' → KnowsText k bytes
+
+-- around texts
+pub record KnowsTexts (s : Scope) (k : Setting) : Type 0 where
+  pub constants : KnowsConstants k.block
+  pub errors : KnowsErrors k
+  pub waits : (entries : List Entry) → KnowsWaiting s (over entries k)
+
+-- around lists of arguments, which stand in words of the newest layer behind those that are set aside: raises and calls
+-- do what they mean whatever waits in these words, and so does a call with a list if each of its arguments does
 pub record KnowsGiven (s : Scope) (k : Setting) : Type 0 where
-  pub overflow : s.overflows ≡ true → OverflowComes (setting_in k)
-  pub divisor : s.divides ≡ true → ZeroDivideComes (setting_in k)
-  pub subscript : s.elements ≡ true → SubscriptComes (setting_in k)
-  pub functions : (level n : ℕ) → s.is_function level n ≡ true → L.Does (setting_in k) 0 (call_number level n)
+  pub layer : Layer
+  pub others : List Layer
+  pub newest : k.block.first.control.layers ≡ layer ∷ others
+  pub few : layer.words ≤ most_set
+  pub free : IsFree layer.waits k.words
+  pub overflow :
+      s.overflows ≡ true → (words : ℕ) → words ≤ most_set → (waits : ℕ → Option ℕ) →
+      OverflowComes (setting_told k words waits layer others)
+  pub divisor :
+      s.divides ≡ true → (words : ℕ) → words ≤ most_set → (waits : ℕ → Option ℕ) →
+      ZeroDivideComes (setting_told k words waits layer others)
+  pub subscript :
+      s.elements ≡ true → (words : ℕ) → words ≤ most_set → (waits : ℕ → Option ℕ) →
+      SubscriptComes (setting_told k words waits layer others)
+  pub functions :
+      (words : ℕ) → words ≤ most_set → (waits : ℕ → Option ℕ) (level n : ℕ) → s.is_function level n ≡ true →
+      L.Does (setting_told k words waits layer others) 0 (call_number level n)
+  pub texts :
+      s.texts ≡ true → (words : ℕ) → words ≤ most_set → (waits : ℕ → Option ℕ) →
+      KnowsTexts s (setting_told k words waits layer others)
   pub given :
-      (level n need : ℕ) (x : Y.Number) → s.is_given_function level n ≡ true → L.Does (setting_in k) need x →
-      L.Does k need (given_number level n x)
+      (words : ℕ) (waits : ℕ → Option ℕ) (level n need : ℕ) (ways : List Way) → 0 < length ways →
+      AreStored k.block.first ways → IsFree waits words → words + argument_words * length ways ≤ layer.words →
+      s.is_given_function (length ways) level n ≡ true →
+      GiveBehind k words need waits layer others ways →
+      L.Does (setting_told k words waits layer others) need (given_number level n ways)
 
 -- raises come to what they mean where there may be any, each variable that may be named is a number of the block, or an
--- array of it, a scalar of fewer bits or a parameter, and calls of functions that may be called leave what they mean
+-- array of it, a scalar of fewer bits or a parameter, and calls of functions that may be called leave what they mean,
+-- as does what pointers lead to
 pub record KnowsNumbers (s : Scope) (k : Setting) : Type 0 where
   pub begun : IsBegun k.block
   pub overflow : s.overflows ≡ true → OverflowComes k
@@ -77,12 +150,20 @@ pub record KnowsNumbers (s : Scope) (k : Setting) : Type 0 where
   pub narrows : s.narrows ≡ true → (x : Spot) → is_narrow_known s x ≡ true → IsScalar k.block x (type_known s x)
   pub parameters : (x : Spot) → is_received s x ≡ true → IsParameter k.block x
   pub functions : (level n : ℕ) → s.is_function level n ≡ true → L.Does k 0 (call_number level n)
-  pub given : s.gives ≡ true → KnowsGiven s k
+  pub texts : s.texts ≡ true → KnowsTexts s k
+  pub given : gives_lists s ≡ true → KnowsGiven s k
+  pub located :
+      s.locates ≡ true → (p n : Spot) → is_pointer_known s p ≡ true → is_based_known s n ≡ true →
+      L.Does k 0 (Y.NumberIn (through p n))
 
--- each list of F items that static data have is known
+-- so many words are left for lists behind those that are set aside
+abbrev pub HasLists : {s : Scope} → {k : Setting} → KnowsNumbers s k → (count : ℕ) → Type 0
+HasLists {s} {k} h count = (g : gives_lists s ≡ true) → k.words + count ≤ (h.given g).layer.words
+
+-- each list with data items that static data have is known
 abbrev pub KnowsLists : Block → Type 0
 KnowsLists k =
-    (fs : T.Formats) → is_fixed_list fs ≡ true → IsPlaced (formats_datum fs) k.call.surroundings.links.data' →
+    (fs : T.Formats) → is_list fs ≡ true → IsPlaced (formats_datum fs) k.call.surroundings.links.data' →
     KnowsFormats k fs
 
 -- ---- around statements
@@ -142,12 +223,8 @@ pub record AreAround (k : Block) (own labels : List Label) : Type 0 where
 abbrev pub call_statement : (level number line : ℕ) → Y.Stmt
 call_statement level n line = Y.CallProcedure (Y.Calling n level Y.NoArgument) line
 
-abbrev pub given_statement : (level number line : ℕ) → Y.Number → Y.Stmt
-given_statement level n line x = Y.CallProcedure (given_call level n x) line
-
--- the most words that the frame of a block has for temporaries
-abbrev pub most_set : ℕ
-most_set = 2 ^ 16
+abbrev pub given_statement : (level number line : ℕ) → List Way → Y.Stmt
+given_statement level n line ways = Y.CallProcedure (given_call level n ways) line
 
 -- so many words may be set aside around a statement: none where no loop counts
 abbrev pub MayBeSet : Scope → (words : ℕ) → Type 0
@@ -189,20 +266,74 @@ pub record KnowsCalls (s : Scope) (k : Block) (own : List Label) (most left' : �
       (stmt_code k.environment (set_aside words) (call_statement level n line)) →
       DoesWith words k labels (call_statement level n line) index left'
 
--- so do those with an argument, around which no words are set aside, if the argument does where the list's are
-pub record KnowsGivenCalls (s : Scope) (k : Block) (own : List Label) (most left' : ℕ) : Type 0 where
-  pub set : MayBeSet s list_sets
-  pub functions :
-      (labels : List Label) (line level n need : ℕ) (x : Y.Number) → Includes own labels →
-      s.is_given_function level n ≡ true → L.Does (setting_around list_sets k labels line most) need x →
-      L.Does (setting_around 0 k labels line most) need (given_number level n x)
-  pub procedures :
-      (labels : List Label) (level n line index need : ℕ) (x : Y.Number) → Includes own labels →
-      s.is_given_procedure level n ≡ true → line < 2 ^ 31 → need ≤ k.registers →
+-- so do those with a list of arguments, whatever waits in the words of the newest layer that are set aside, if each of
+-- its arguments does
+pub record KnowsGivenCalls (s : Scope) (k : Block) (layer : Layer) (others : List Layer) (own : List Label)
+    (most left' : ℕ) : Type 0
+  where
+    pub functions :
+        (words : ℕ) (waits : ℕ → Option ℕ) (labels : List Label) (line level n need : ℕ) (ways : List Way) →
+        0 < length ways → AreStored k.first ways → Includes own labels → IsFree waits words →
+        words + argument_words * length ways ≤ layer.words →
+        s.is_given_function (length ways) level n ≡ true →
+        GiveBehind (setting_around words k labels line most) words need waits layer others ways →
+        L.Does (setting_around words (telling waits layer others k) labels line most) need (given_number level n ways)
+    pub procedures :
+        (words : ℕ) (waits : ℕ → Option ℕ) (labels : List Label) (level n line index need : ℕ) (ways : List Way) →
+        0 < length ways → AreStored k.first ways → Includes own labels → IsFree waits words →
+        words + argument_words * length ways ≤ layer.words →
+        s.is_given_procedure (length ways) level n ≡ true → line < 2 ^ 31 → need ≤ k.registers →
+        Linked k.call.surroundings.links k.call.code index
+        (stmt_code k.environment (set_aside words) (given_statement level n line ways)) →
+        GiveBehind (setting_around words k labels line most) words need waits layer others ways →
+        DoesWith words (telling waits layer others k) labels (given_statement level n line ways) index left'
+
+-- texts in its statements: constants are told, an ERROR by a service's status comes to what it means, and raises and
+-- calls do what they mean while texts wait
+pub record KnowsAroundTexts (s : Scope) (k : Block) (own : List Label) (most : ℕ) : Type 0 where
+  pub constants : KnowsConstants k
+  pub errors :
+      (words : ℕ) → MayBeSet s words → (labels : List Label) (line : ℕ) → Includes own labels →
+      KnowsErrors (setting_around words k labels line most)
+  pub waits :
+      (words : ℕ) → MayBeSet s words → (line : ℕ) (entries : List Entry) →
+      KnowsWaiting s (setting_around words (waiting entries k) [] line most)
+
+-- what is BASED is read and assigned by pointers, allocated and freed, and areas are assigned, as all of these mean,
+-- where no words are set aside
+pub record KnowsBased (s : Scope) (k : Block) (own : List Label) (most left' : ℕ) : Type 0 where
+  pub reads :
+      (labels : List Label) (line : ℕ) (p n : Spot) → Includes own labels → is_pointer_known s p ≡ true →
+      is_based_known s n ≡ true → L.Does (setting_around 0 k labels line most) 0 (Y.NumberIn (through p n))
+  pub assigned :
+      (labels : List Label) (p n : Spot) (source : Y.Number) (line index need : ℕ) → Includes own labels →
+      is_pointer_known s p ≡ true → is_based_known s n ≡ true → line < 2 ^ 31 → need ≤ k.registers →
+      1 ≤ k.registers →
       Linked k.call.surroundings.links k.call.code index
-      (stmt_code k.environment none_taken (given_statement level n line x)) →
-      L.Does (setting_around list_sets k labels line most) need x →
-      Does k labels (given_statement level n line x) index left'
+      (stmt_code k.environment none_taken (B.assignment p n source line)) →
+      L.Does (setting_around 0 k labels line most) need source →
+      Does k labels (B.assignment p n source line) index left'
+  pub allocated :
+      (labels : List Label) (n p x : Spot) (line index : ℕ) → Includes own labels → is_pointer_known s p ≡ true →
+      is_based_known s n ≡ true → is_area_known s x ≡ true → line < 2 ^ 31 →
+      Linked k.call.surroundings.links k.call.code index
+      (stmt_code k.environment none_taken (allocation n p x line)) →
+      Does k labels (allocation n p x line) index left'
+  pub freed :
+      (labels : List Label) (p n : Spot) (line index : ℕ) → Includes own labels → is_pointer_known s p ≡ true →
+      is_based_known s n ≡ true → line < 2 ^ 31 →
+      Linked k.call.surroundings.links k.call.code index (stmt_code k.environment none_taken (freeing p n line)) →
+      Does k labels (freeing p n line) index left'
+  pub copied :
+      (labels : List Label) (x y : Spot) (line index : ℕ) → Includes own labels → is_area_known s x ≡ true →
+      is_area_known s y ≡ true → line < 2 ^ 31 →
+      Linked k.call.surroundings.links k.call.code index (stmt_code k.environment none_taken (copying x y line)) →
+      Does k labels (copying x y line) index left'
+  pub emptied :
+      (labels : List Label) (x : Spot) (line index : ℕ) → Includes own labels → is_area_known s x ≡ true →
+      line < 2 ^ 31 →
+      Linked k.call.surroundings.links k.call.code index (stmt_code k.environment none_taken (emptying x line)) →
+      Does k labels (emptying x line) index left'
 
 -- jumps out come to what they mean
 abbrev pub KnowsJumps : Scope → Block → (own : List Label) → (left' : ℕ) → Type 0
@@ -211,6 +342,14 @@ KnowsJumps s k own left' =
     s.is_outer level label ≡ true → line < 2 ^ 31 →
     Linked k.call.surroundings.links k.call.code index (stmt_code k.environment none_taken (Y.Goto level label line)) →
     Does k labels (Y.Goto level label line) index left'
+
+-- and SIGNAL, be it that the unit goes on at a label of the block's own list
+abbrev pub KnowsSignals : Scope → Block → (own : List Label) → (left' : ℕ) → Type 0
+KnowsSignals s k own left' =
+    (labels : List Label) (c : Condition) (line index : ℕ) → Includes own labels → s.signals c ≡ true →
+    line < 2 ^ 31 →
+    Linked k.call.surroundings.links k.call.code index (stmt_code k.environment none_taken (Y.Signal c line)) →
+    Does k labels (Y.Signal c line) index left'
 
 -- it is a procedure's or a function's own block, in which a jump comes to a label and a RETURN to the end
 pub record IsHome (s : Scope) (valued : Bool) (k : Block) (left' : ℕ) : Type 0 where
@@ -231,7 +370,10 @@ pub record KnowsLoops (s : Scope) (k : Block) (own : List Label) (most left' : �
   pub free : (n : ℕ) → behind ≤ n → layer.waits n ≡ None
   pub raises : (waits : ℕ → Option ℕ) → KnowsRaises s (telling waits layer others k) own most
   pub calls : (waits : ℕ → Option ℕ) → KnowsCalls s (telling waits layer others k) own most left'
+  pub given : s.gives ≡ true → KnowsGivenCalls s k layer others own most left'
   pub jumps : (waits : ℕ → Option ℕ) → KnowsJumps s (telling waits layer others k) own left'
+  pub texts : (waits : ℕ → Option ℕ) → s.texts ≡ true → KnowsAroundTexts s (telling waits layer others k) own most
+  pub signals : (waits : ℕ → Option ℕ) → KnowsSignals s (telling waits layer others k) own left'
   pub puts : (waits : ℕ → Option ℕ) → s.puts ≡ true → KnowsPuts s (telling waits layer others k) most
 
 -- a block whose own list has these labels
@@ -247,8 +389,10 @@ pub record IsReady (s : Scope) (valued : Bool) (k : Block) (labels : List Label)
   pub narrows : s.narrows ≡ true → (x : Spot) → is_narrow_known s x ≡ true → IsScalar k x (type_known s x)
   pub parameters : (x : Spot) → is_received s x ≡ true → IsParameter k x
   pub calls : KnowsCalls s k labels most left'
-  pub given : s.gives ≡ true → KnowsGivenCalls s k labels most left'
+  pub based : s.locates ≡ true → KnowsBased s k labels most left'
   pub jumps : KnowsJumps s k labels left'
+  pub texts : s.texts ≡ true → KnowsAroundTexts s k labels most
+  pub signals : KnowsSignals s k labels left'
   pub puts : s.puts ≡ true → KnowsPuts s k most
   pub loops : s.counts ≡ true → KnowsLoops s k labels most left'
   -- an act pays for a statement and for what a call in it needs

@@ -1,23 +1,28 @@
 -- The laws of such blocks: each expression leaves what it means, and each statement does what it means.
-use Rattle.std.specs.Prelude.{ℕ, ◌≤◌, ◌≡◌, ◌++◌, Bool, true, List, []}
+use Rattle.std.specs.Prelude.{ℕ, ◌≤◌, ◌≡◌, ◌++◌, Bool, true, false, List, []}
 use Rattle.pli_typing.specs.TypedTree as Y
 use Rattle.pli_meaning.specs.Control.{Label}
 use Rattle.pli_meaning.specs.DeclaredShapes.{variables_of_block}
 use Rattle.pli_meaning.specs.Executing.{labels_in}
+use Rattle.pli_serving.specs.ServiceState.{Entry}
 use Rattle.pli_coding.specs.Environments.{Environment}
 use Rattle.pli_coding.specs.Registers.{held_registers}
 use Rattle.pli_coding.specs.Statements.{block_held, block_words}
-use Rattle.program_runs.specs.Statements.{AreMarked, Block, Does, EachDoes, IsBegun}
+use Rattle.program_runs.specs.Statements.{AreMarked, Block, Does, EachDoes, IsBegun, waiting}
+use Rattle.expression_runs.specs.Assignments.{setting_around}
 use Rattle.expression_runs.specs.Laws as L
 use Rattle.expression_runs.specs.Values.{Setting}
 use Rattle.expression_runs.specs.Variables.{IsNumber, Spot}
 use Rattle.element_runs.specs.Arrays.{IsArray}
 use Rattle.argument_runs.specs.Parameters.{IsParameter}
 use Rattle.test_runs.specs.Tests.{Tests}
-use Rattle.number_runs.specs.Knowledge.{AreAround, AreStanding, HasFrame, IsReady, IsUnraised, KnowsLists, KnowsNumbers}
-use Rattle.number_runs.specs.Knowledge.{KnowsPuts, KnowsRaises, Standing}
+use Rattle.number_runs.specs.Knowledge.{AreAround, AreStanding, HasFrame, HasLists, IsReady, IsUnraised, KnowsLists}
+use Rattle.number_runs.specs.Knowledge.{KnowsNumbers, KnowsPuts, KnowsRaises, Standing, KnowsAroundTexts}
+use Rattle.number_runs.specs.Knowledge.{KnowsConstants, MayBeSet, call_number}
+use Rattle.text_runs.specs.Laws.{TextDoes}
 use Rattle.number_runs.specs.Numbers.{Scope, bounds_known, is_array_known, is_known, is_number, is_received, is_test}
-use Rattle.number_runs.specs.Numbers.{is_narrow_known, number_needs, test_needs, type_known}
+use Rattle.number_runs.specs.Numbers.{is_narrow_known, number_needs, number_sets, test_needs, test_sets, type_known}
+use Rattle.number_runs.specs.Numbers.{is_text, text_needs, IsBare}
 use Rattle.scalar_runs.specs.Scalars.{IsScalar}
 use Rattle.number_runs.specs.Statements.{are_statements, is_statement, statement_needs, statement_sets}
 use Rattle.number_runs.specs.Statements.{statements_need, statements_set}
@@ -25,10 +30,15 @@ use Rattle.number_runs.specs.Variables.{are_known}
 
 pub record ExpressionsDo : Type 0 where
   pub numbers :
-      (s : Scope) (k : Setting) (x : Y.Number) → KnowsNumbers s k → is_number s x ≡ true →
-      L.Does k (number_needs x) x
+      (s : Scope) (k : Setting) (x : Y.Number) (h : KnowsNumbers s k) → is_number s x ≡ true →
+      HasLists h (number_sets x) → L.Does k (number_needs x) x
   pub tests :
-      (s : Scope) (k : Setting) (x : Y.Bit) → KnowsNumbers s k → is_test s x ≡ true → Tests k (test_needs x) x
+      (s : Scope) (k : Setting) (x : Y.Bit) (h : KnowsNumbers s k) → is_test s x ≡ true → HasLists h (test_sets x) →
+      Tests k (test_needs x) x
+  -- texts, above those that wait
+  pub texts :
+      (entries : List Entry) (s : Scope) (k : Setting) (x : Y.Text) → KnowsNumbers s k → IsBare s →
+      s.texts ≡ true → is_text s x ≡ true → TextDoes entries k (text_needs x) x
 
 pub record BodiesDo : Type 0 where
   -- a statement does what it means, whatever lists of its block are around it
@@ -57,7 +67,15 @@ pub record BodiesDo : Type 0 where
       ((x : Spot) → is_known s x ≡ true → IsNumber k x) →
       (s.elements ≡ true → (x : Spot) → is_array_known s x ≡ true → IsArray k x (bounds_known s x)) →
       (s.narrows ≡ true → (x : Spot) → is_narrow_known s x ≡ true → IsScalar k x (type_known s x)) →
-      ((x : Spot) → is_received s x ≡ true → IsParameter k x) → KnowsLists k → KnowsPuts s k most
+      ((x : Spot) → is_received s x ≡ true → IsParameter k x) → (s.texts ≡ true → KnowsConstants k) → KnowsLists k →
+      KnowsPuts s k most
+  -- and texts may wait, if functions are called above them
+  pub texts :
+      (s : Scope) (k : Block) (own : List Label) (most : ℕ) → IsUnraised k most → KnowsConstants k →
+      ((words : ℕ) → MayBeSet s words → (line : ℕ) (entries : List Entry) (level n : ℕ) →
+      s.is_function level n ≡ true →
+      L.Does (setting_around words (waiting entries k) [] line most) 0 (call_number level n)) →
+      KnowsAroundTexts s k own most
 
 -- a block whose variables and statements are these, and whose temporaries fit registers: its frame has the words that
 -- loops set aside, and those of lists of arguments, and no others, and they take no register that it doesn't save

@@ -1,9 +1,11 @@
 pub mod Arrays
 pub mod Narrow
+pub mod Based
 pub mod Numbers
 pub mod Counting
 pub mod Puts
 pub mod Statements
 pub mod Knowledge
 pub mod Variables
+pub mod Areas
 pub mod Laws

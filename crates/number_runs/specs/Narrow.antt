@@ -1,13 +1,24 @@
--- Scalars of fewer bits than FIXED BINARY(31), which a block may declare beside its numbers: FIXED BINARY of a lower
--- precision, and BIT(1).
-use Rattle.std.specs.Prelude.{ℕ, ◌==◌, ◌&&◌, Bool, false, true, List, [], ◌∷◌, nat_lt, Option, None, Some}
+-- Scalars of other types than FIXED BINARY(31), which a block may declare beside its numbers: FIXED BINARY of a lower
+-- precision, BIT(1), and CHARACTER of a constant length, VARYING or not.
+use Rattle.std.specs.Prelude.{ℕ, ◌==◌, ◌&&◌, Bool, false, true, List, [], ◌∷◌, nat_le, nat_lt, Option, None, Some, pos}
 use Rattle.pli_language.specs.Tree as T
 use Rattle.pli_typing.specs.TypedTree as Y
+use Rattle.pli_meaning.specs.Texts.{most_text}
+
+-- a length that a text may have
+abbrev pub is_length : Y.Extent → Bool
+is_length (Y.ConstantExtent (pos n)) = nat_lt 0 n && nat_le n most_text
+is_length _ = false
+
+abbrev pub is_text_type : Y.LeafType → Bool
+is_text_type (Y.CharacterLeaf size) = is_length size
+is_text_type (Y.VaryingLeaf size) = is_length size
+is_text_type _ = false
 
 abbrev pub is_narrow_type : Y.LeafType → Bool
 is_narrow_type (Y.FixedLeaf precision) = nat_lt 0 precision && nat_lt precision 31
 is_narrow_type Y.BitLeaf = true
-is_narrow_type _ = false
+is_narrow_type t = is_text_type t
 
 -- to which nothing is given
 abbrev pub is_narrow_leaf : Y.LeafType → List Y.Bounds → List T.InitialItem → Bool

@@ -1,16 +1,22 @@
--- Expressions of FIXED BINARY(31) numbers and tests of them, as a class that is computed from typed trees.
-use Rattle.std.specs.Prelude.{ℕ, suc, ◌+◌, ◌^◌, ◌==◌, ◌&&◌, ◌||◌, Bool, true, false, List, [], ◌∷◌, max, nat_lt, not}
-use Rattle.std.specs.Prelude.{Option, None, Some}
+-- Expressions of FIXED BINARY(31) numbers, tests of them, and texts, as a class that is computed from typed trees.
+use Rattle.std.specs.Prelude.{ℕ, suc, ◌+◌, ◌^◌, ◌==◌, ◌&&◌, ◌||◌, Bool, true, false, List, [], ◌∷◌, max, nat_le, nat_lt}
+use Rattle.std.specs.Prelude.{◌≡◌, length, not, Option, None, Some}
 use Rattle.std.specs.List.{list_any}
+use Rattle.pli_language.specs.declared.condition.Condition.{Condition}
 use Rattle.pli_typing.specs.Signatures.{Bounds}
 use Rattle.pli_typing.specs.TypedTree as Y
 use Rattle.pli_meaning.specs.Control.{Label}
 use Rattle.pli_meaning.specs.DeclaredShapes.{declared_variable}
+use Rattle.pli_meaning.specs.Texts.{most_text}
 use Rattle.pli_coding.specs.Environments.{BlockPlace}
+use Rattle.pli_coding.specs.Expressions.{argument_count, list_words}
+use Rattle.pli_coding.specs.Frames.{parameters_of_block}
 use Rattle.expression_runs.specs.Variables.{Spot, variable_of}
 use Rattle.argument_runs.specs.Parameters.{parameter_of}
+use Rattle.area_runs.specs.Based.{based_of}
 use Rattle.number_runs.specs.Arrays.{bounds_if, is_array_if}
-use Rattle.number_runs.specs.Narrow.{is_bit, is_narrow_if, is_number_type, type_if}
+use Rattle.number_runs.specs.Narrow.{is_bit, is_narrow_if, is_number_type, is_text_type, type_if}
+use Rattle.number_runs.specs.Based.{is_area_if, is_based_class, is_based_if, is_pointer_if}
 
 -- ---- what an expression may name
 
@@ -24,16 +30,22 @@ pub record Scope : Type 0 where
   pub receivers : List BlockPlace
   pub is_function : (level number : ℕ) → Bool
   pub is_procedure : (level number : ℕ) → Bool
-  -- whether calls may have an argument, which is copied, and the functions and the procedures with a parameter
+  -- whether calls may have arguments, each of which is copied, and the functions and the procedures with so many
+  -- parameters
   pub gives : Bool
-  pub is_given_function : (level number : ℕ) → Bool
-  pub is_given_procedure : (level number : ℕ) → Bool
+  pub is_given_function : (count level number : ℕ) → Bool
+  pub is_given_procedure : (count level number : ℕ) → Bool
+  -- whether they may reach what is BASED, and the blocks whose pointers and areas they may name
+  pub locates : Bool
+  pub pointers : List BlockPlace
   -- whether its loops may count
   pub counts : Bool
   -- whether statements may write numbers by format lists
   pub puts : Bool
   -- whether they may name scalars of fewer bits, and bits
   pub narrows : Bool
+  -- whether they may have texts
+  pub texts : Bool
   -- whether expressions may raise FIXEDOVERFLOW, and ZERODIVIDE
   pub overflows : Bool
   pub divides : Bool
@@ -43,6 +55,8 @@ pub record Scope : Type 0 where
   pub own : Bool
   -- the labels to which they may jump out, each of the block around at a level
   pub is_outer : ℕ → Label → Bool
+  -- the conditions that they may signal
+  pub signals : Condition → Bool
 
 -- ---- variables
 
@@ -139,11 +153,12 @@ abbrev pub is_parameter_if : Option Y.DeclaredVariable → Bool
 is_parameter_if None = false
 is_parameter_if (Some d) = is_parameter d
 
--- the first parameter of one of these blocks
+-- a parameter of one of these blocks
 abbrev pub is_received : Scope → Spot → Bool
 is_received s x =
     list_any (is_place x) s.receivers
-    && ((x.index == 0) && is_parameter_if (declared_variable s.program (parameter_of x)))
+    && (list_any (λ n. n == x.index) (parameters_of_block s.program x.block)
+    && is_parameter_if (declared_variable s.program (parameter_of x)))
 
 -- all of one
 abbrev pub is_given : Scope → Y.Reference → Bool
@@ -166,11 +181,56 @@ is_element s v part =
     s.elements
     && (is_automatic v.class && ((part.first == 0) && ((part.count == 1) && is_array_known s (spot_of v))))
 
+-- ---- what pointers lead to
+
+-- a pointer of one of these blocks, an area of one, and a number that is BASED
+abbrev pub is_pointer_known : Scope → Spot → Bool
+is_pointer_known s x =
+    list_any (is_place x) s.pointers && is_pointer_if (declared_variable s.program (variable_of x))
+
+abbrev pub is_area_known : Scope → Spot → Bool
+is_area_known s x = list_any (is_place x) s.pointers && is_area_if (declared_variable s.program (variable_of x))
+
+abbrev pub is_based_known : Scope → Spot → Bool
+is_based_known s x = is_based_if (declared_variable s.program (based_of x))
+
+-- all of a pointer
+abbrev pub is_pointer_in : Scope → Y.Reference → Bool
+is_pointer_in s (Y.Referring v Y.NotLocated part Y.NoNumber) =
+    is_automatic v.class
+    && ((part.first == 0) && ((part.count == 1) && is_pointer_known s (spot_of v)))
+is_pointer_in s _ = false
+
+abbrev pub is_based_variable : Scope → Y.Variable → Bool
+is_based_variable s v = is_based_class v.class && is_based_known s (spot_of v)
+
+-- all that one leads to
+abbrev pub is_located : Scope → Y.Variable → Y.Pointer → Y.Part → Bool
+is_located s v (Y.PointerIn r) part =
+    s.locates
+    && (is_based_variable s v && ((part.first == 0) && ((part.count == 1) && is_pointer_in s r)))
+is_located s v _ part = false
+
 -- ---- numbers
 
--- where words of the frame are set aside calls have no arguments
+-- lists stand behind the words that loops set aside
+abbrev pub gives_lists : Scope → Bool
+gives_lists s = s.gives && s.counts
+
+-- where words of the frame are set aside nothing that is BASED is reached
+abbrev pub without_located : Scope → Scope
+without_located s = record s { locates = false }
+
+-- while texts wait calls have no arguments, either
 abbrev pub without_given : Scope → Scope
-without_given s = record s { gives = false }
+without_given s = record s { gives = false; locates = false }
+
+abbrev pub IsBare : Scope → Type 0
+IsBare s = (s.gives ≡ false) × (s.locates ≡ false)
+
+-- of FIXED BINARY
+abbrev pub is_precision : ℕ → Bool
+is_precision precision = nat_lt 0 precision && nat_le precision 31
 
 -- what an operator may raise
 abbrev pub may_calculate : Scope → Y.ArithmeticOperator → Bool
@@ -182,8 +242,10 @@ abbrev mutual
   is_number s (Y.NumberConstant n) = nat_lt n (2 ^ 31)
   is_number s (Y.NumberIn r) = is_reference s r || is_narrow_with s is_number_type r
   is_number s (Y.NumberFrom (Y.Calling number level Y.NoArgument)) = s.is_function level number
-  is_number s (Y.NumberFrom (Y.Calling number level (Y.ArgumentThen argument Y.NoArgument))) =
-      s.gives && (s.is_given_function level number && is_argument (without_given s) argument)
+  is_number s (Y.NumberFrom (Y.Calling number level (Y.ArgumentThen first rest))) =
+      gives_lists s
+      && (s.is_given_function (suc (argument_count rest)) level number
+      && are_arguments (without_located s) (Y.ArgumentThen first rest))
   is_number s (Y.Signed sign x) = s.overflows && is_number s x
   is_number s (Y.Calculated operator left right) =
       may_calculate s operator && (is_number s left && is_number s right)
@@ -193,10 +255,18 @@ abbrev mutual
   is_number s (Y.Modulo dividend divisor) = s.divides && (is_number s dividend && is_number s divisor)
   is_number s (Y.Divided precision dividend divisor) =
       (s.overflows && s.divides) && ((precision == 31) && (is_number s dividend && is_number s divisor))
+  is_number s (Y.NumberOfText x) = s.texts && is_text (without_given s) x
+  is_number s (Y.NumberOfBit x) = s.narrows && is_test s x
+  is_number s (Y.LengthOf x) = s.texts && is_text (without_given s) x
+  is_number s (Y.IndexOf searched sought) =
+      s.texts && (is_text (without_given s) searched && is_text (without_given s) sought)
+  is_number s (Y.VerifyOf searched allowed) =
+      s.texts && (is_text (without_given s) searched && is_text (without_given s) allowed)
   is_number s _ = false
 
-  -- a variable, a parameter, or an element of an array
+  -- a variable, a parameter, an element of an array, or what a pointer leads to
   pub is_reference : Scope → Y.Reference → Bool
+  is_reference s (Y.Referring v (Y.LocatedBy p) part Y.NoNumber) = is_located s v p part
   is_reference s (Y.Referring v Y.NotLocated part (Y.NumberThen subscript Y.NoNumber)) =
       is_element s v part && (is_number s subscript && is_wider s subscript)
   is_reference s r = is_variable s r || is_given s r
@@ -206,9 +276,35 @@ abbrev mutual
   is_argument s (Y.ByCopy type (Y.StoredNumber precision x)) = is_fixed type && ((precision == 31) && is_number s x)
   is_argument s _ = false
 
+  pub are_arguments : Scope → Y.Arguments → Bool
+  are_arguments s Y.NoArgument = true
+  are_arguments s (Y.ArgumentThen first rest) = is_argument s first && are_arguments s rest
+
   pub are_numbers : Scope → Y.Numbers → Bool
   are_numbers s Y.NoNumber = true
   are_numbers s (Y.NumberThen first rest) = is_number s first && are_numbers s rest
+
+  pub is_text : Scope → Y.Text → Bool
+  is_text s (Y.TextConstant bytes) = nat_le (length bytes) most_text
+  is_text s (Y.TextIn r) = is_narrow_with s is_text_type r
+  is_text s (Y.TextOfNumber precision x) = is_precision precision && is_number s x
+  is_text s (Y.TextOfBit x) = is_test s x
+  is_text s (Y.Joined left right) = is_text s left && is_text s right
+  is_text s (Y.SubstringFrom x start) = is_text s x && is_number s start
+  is_text s (Y.Substring x start count) = is_text s x && (is_number s start && is_number s count)
+  is_text s _ = false
+
+  pub is_test : Scope → Y.Bit → Bool
+  is_test s (Y.BitConstant b) = true
+  is_test s (Y.BitIn r) = is_narrow_with s is_bit r
+  is_test s (Y.Negated x) = is_test s x
+  is_test s (Y.Combined operator left right) = is_test s left && is_test s right
+  is_test s (Y.NumbersCompared comparison left right) = is_number s left && is_number s right
+  is_test s (Y.BitsCompared comparison left right) = is_test s left && is_test s right
+  is_test s (Y.BitOfText x) = s.texts && is_text (without_given s) x
+  is_test s (Y.TextsCompared comparison left right) =
+      s.texts && (is_text (without_given s) left && is_text (without_given s) right)
+  is_test s _ = false
 
 -- how many registers its temporaries need
 abbrev mutual
@@ -222,15 +318,23 @@ abbrev mutual
   number_needs (Y.Extreme extremum first more) = max (number_needs first) (suc (numbers_need more))
   number_needs (Y.Modulo dividend divisor) = max (number_needs dividend) (suc (number_needs divisor))
   number_needs (Y.Divided precision dividend divisor) = max (number_needs dividend) (suc (number_needs divisor))
+  number_needs (Y.NumberOfText x) = text_needs x
+  number_needs (Y.NumberOfBit x) = test_needs x
+  number_needs (Y.LengthOf x) = text_needs x
+  number_needs (Y.IndexOf searched sought) = max (text_needs searched) (text_needs sought)
+  number_needs (Y.VerifyOf searched allowed) = max (text_needs searched) (text_needs allowed)
   number_needs _ = 0
 
   pub reference_needs : Y.Reference → ℕ
   reference_needs (Y.Referring v locator part subscripts) = subscripts_need subscripts
 
-  -- a value waits on its way into the list
   pub call_needs : Y.Call → ℕ
-  call_needs (Y.Calling number level Y.NoArgument) = 0
-  call_needs (Y.Calling number level (Y.ArgumentThen argument rest)) = max (argument_needs argument) 1
+  call_needs (Y.Calling number level arguments) = arguments_need arguments
+
+  -- one at a time; a value waits on its way into the list
+  pub arguments_need : Y.Arguments → ℕ
+  arguments_need Y.NoArgument = 0
+  arguments_need (Y.ArgumentThen first rest) = max (max (argument_needs first) 1) (arguments_need rest)
 
   pub argument_needs : Y.Argument → ℕ
   argument_needs (Y.ByCopy type (Y.StoredNumber precision x)) = number_needs x
@@ -246,9 +350,28 @@ abbrev mutual
   numbers_need Y.NoNumber = 0
   numbers_need (Y.NumberThen first rest) = max (number_needs first) (numbers_need rest)
 
--- how many words of the frame their lists of arguments take
-abbrev pub list_sets : ℕ
-list_sets = 6
+  -- texts wait on their stack, and the place of a part in a register
+  pub text_needs : Y.Text → ℕ
+  text_needs (Y.TextOfNumber precision x) = number_needs x
+  text_needs (Y.TextOfBit x) = test_needs x
+  text_needs (Y.Joined left right) = max (text_needs left) (text_needs right)
+  text_needs (Y.SubstringFrom x start) = max (text_needs x) (number_needs start)
+  text_needs (Y.Substring x start count) = max (text_needs x) (max (number_needs start) (suc (number_needs count)))
+  text_needs _ = 0
+
+  pub test_needs : Y.Bit → ℕ
+  test_needs (Y.Negated x) = test_needs x
+  test_needs (Y.Combined operator left right) = max (test_needs left) (suc (test_needs right))
+  test_needs (Y.NumbersCompared comparison left right) = max (number_needs left) (suc (number_needs right))
+  test_needs (Y.BitsCompared comparison left right) = max (test_needs left) (suc (test_needs right))
+  test_needs (Y.BitOfText x) = text_needs x
+  test_needs (Y.TextsCompared comparison left right) = max (text_needs left) (text_needs right)
+  test_needs _ = 0
+
+-- how many words of the frame their lists of arguments take, and the names by which they reach what is BASED
+abbrev pub locator_sets : Y.Locator → ℕ
+locator_sets Y.NotLocated = 0
+locator_sets (Y.LocatedBy p) = 5
 
 abbrev mutual
   pub number_sets : Y.Number → ℕ
@@ -261,14 +384,18 @@ abbrev mutual
   number_sets (Y.Extreme extremum first more) = max (number_sets first) (numbers_set more)
   number_sets (Y.Modulo dividend divisor) = max (number_sets dividend) (number_sets divisor)
   number_sets (Y.Divided precision dividend divisor) = max (number_sets dividend) (number_sets divisor)
+  number_sets (Y.NumberOfBit x) = test_sets x
   number_sets _ = 0
 
   pub reference_sets : Y.Reference → ℕ
-  reference_sets (Y.Referring v locator part subscripts) = numbers_set subscripts
+  reference_sets (Y.Referring v locator part subscripts) = max (locator_sets locator) (numbers_set subscripts)
 
   pub call_sets : Y.Call → ℕ
-  call_sets (Y.Calling number level Y.NoArgument) = 0
-  call_sets (Y.Calling number level (Y.ArgumentThen argument rest)) = list_sets + argument_sets argument
+  call_sets (Y.Calling number level arguments) = list_words arguments + arguments_set arguments
+
+  pub arguments_set : Y.Arguments → ℕ
+  arguments_set Y.NoArgument = 0
+  arguments_set (Y.ArgumentThen first rest) = max (argument_sets first) (arguments_set rest)
 
   pub argument_sets : Y.Argument → ℕ
   argument_sets (Y.ByCopy type (Y.StoredNumber precision x)) = number_sets x
@@ -278,27 +405,9 @@ abbrev mutual
   numbers_set Y.NoNumber = 0
   numbers_set (Y.NumberThen first rest) = max (number_sets first) (numbers_set rest)
 
--- ---- tests
-
-abbrev pub is_test : Scope → Y.Bit → Bool
-is_test s (Y.BitConstant b) = true
-is_test s (Y.BitIn r) = is_narrow_with s is_bit r
-is_test s (Y.Negated x) = is_test s x
-is_test s (Y.Combined operator left right) = is_test s left && is_test s right
-is_test s (Y.NumbersCompared comparison left right) = is_number s left && is_number s right
-is_test s (Y.BitsCompared comparison left right) = is_test s left && is_test s right
-is_test s _ = false
-
-abbrev pub test_needs : Y.Bit → ℕ
-test_needs (Y.Negated x) = test_needs x
-test_needs (Y.Combined operator left right) = max (test_needs left) (suc (test_needs right))
-test_needs (Y.NumbersCompared comparison left right) = max (number_needs left) (suc (number_needs right))
-test_needs (Y.BitsCompared comparison left right) = max (test_needs left) (suc (test_needs right))
-test_needs _ = 0
-
-abbrev pub test_sets : Y.Bit → ℕ
-test_sets (Y.Negated x) = test_sets x
-test_sets (Y.Combined operator left right) = max (test_sets left) (test_sets right)
-test_sets (Y.NumbersCompared comparison left right) = max (number_sets left) (number_sets right)
-test_sets (Y.BitsCompared comparison left right) = max (test_sets left) (test_sets right)
-test_sets _ = 0
+  pub test_sets : Y.Bit → ℕ
+  test_sets (Y.Negated x) = test_sets x
+  test_sets (Y.Combined operator left right) = max (test_sets left) (test_sets right)
+  test_sets (Y.NumbersCompared comparison left right) = max (number_sets left) (number_sets right)
+  test_sets (Y.BitsCompared comparison left right) = max (test_sets left) (test_sets right)
+  test_sets _ = 0

@@ -1,10 +1,11 @@
--- PUT SKIP, and PUT EDIT of numbers by lists with F items, as classes that are computed from typed trees.
-use Rattle.std.specs.Prelude.{ℕ, ◌&&◌, Bool, true, false, List, [], ◌∷◌, max, Option, None, Some}
+-- PUT SKIP, and PUT EDIT of numbers and texts by lists with F and A items, as classes that are computed from typed
+-- trees.
+use Rattle.std.specs.Prelude.{ℕ, ◌&&◌, ◌||◌, Bool, true, false, List, [], ◌∷◌, max, not, Option, None, Some}
 use Rattle.pli_language.specs.Formats.{is_times, is_width}
 use Rattle.pli_language.specs.Tree as T
 use Rattle.pli_typing.specs.TypedTree as Y
-use Rattle.pli_coding.specs.Streams.{has_fixed}
-use Rattle.number_runs.specs.Numbers.{Scope, is_number, number_needs}
+use Rattle.pli_coding.specs.Streams.{has_fixed, has_text}
+use Rattle.number_runs.specs.Numbers.{Scope, is_number, is_precision, is_text, number_needs, text_needs}
 
 -- ---- format lists
 
@@ -12,13 +13,18 @@ abbrev pub has_format : T.Formats → Bool
 has_format T.NoFormat = false
 has_format (T.FormatThen place repetition first rest) = true
 
--- F items, and X, SKIP and COLUMN, each as often as the language lets it stand, and as wide or as far; and lists of
--- these
+-- a field as wide as the language lets it be, or as a text is long
+abbrev pub is_width_if : Option ℕ → Bool
+is_width_if None = true
+is_width_if (Some width) = is_width width
+
+-- F and A items, and X, SKIP and COLUMN, each as often as the language lets it stand, and as wide or as far; and lists
+-- of these
 abbrev mutual
   pub is_format : T.Format → Bool
   is_format (T.FormatList formats) = has_format formats && are_formats formats
   is_format (T.FixedFormat width) = is_width width
-  is_format (T.TextFormat width) = false
+  is_format (T.TextFormat width) = is_width_if width
   is_format (T.SpaceFormat n) = is_times n
   is_format (T.SkipFormat n) = is_times n
   is_format (T.ColumnFormat n) = is_times n
@@ -28,25 +34,36 @@ abbrev mutual
   are_formats (T.FormatThen place repetition first rest) =
       is_times repetition && (is_format first && are_formats rest)
 
--- with an F item, at any depth
-abbrev pub is_fixed_list : T.Formats → Bool
-is_fixed_list formats = are_formats formats && has_fixed formats
+-- with a data item, at any depth
+abbrev pub is_list : T.Formats → Bool
+is_list formats = are_formats formats && (has_fixed formats || has_text formats)
 
 -- ---- data lists
 
--- what is written calls no function: it is evaluated while a place in a format list is in use
+-- what is written calls no function, and reaches nothing that is BASED: it is evaluated while a place in a format list
+-- is in use
 abbrev pub without_calls : Scope → Scope
-without_calls s = record s { is_function = λ level n. false; gives = false }
+without_calls s = record s { is_function = λ level n. false; gives = false; locates = false }
 
 abbrev pub is_put_item : Scope → Y.PutItem → Bool
 is_put_item s (Y.PutValue (Y.NumberValue precision x)) = is_number (without_calls s) x
+is_put_item s (Y.PutValue (Y.TextValue x)) = s.texts && is_text (without_calls s) x
 is_put_item s _ = false
 
 abbrev pub are_put_items : Scope → List Y.PutItem → Bool
 are_put_items s [] = true
 are_put_items s (i ∷ is) = is_put_item s i && are_put_items s is
 
--- numbers, one at least
+-- a number is shown by A with as many places as its precision wants
+abbrev pub is_shown : T.Formats → Y.PutItem → Bool
+is_shown formats (Y.PutValue (Y.NumberValue precision x)) = not (has_text formats) || is_precision precision
+is_shown formats _ = true
+
+abbrev pub are_shown : T.Formats → List Y.PutItem → Bool
+are_shown formats [] = true
+are_shown formats (i ∷ is) = is_shown formats i && are_shown formats is
+
+-- numbers and texts, one at least
 abbrev pub is_put_list : Scope → List Y.PutItem → Bool
 is_put_list s [] = false
 is_put_list s (i ∷ is) = are_put_items s (i ∷ is)
@@ -56,13 +73,13 @@ is_put_list s (i ∷ is) = are_put_items s (i ∷ is)
 -- each by a list of its own
 abbrev pub are_pairs : Scope → List Y.PutPair → Bool
 are_pairs s [] = true
-are_pairs s (p ∷ ps) = (is_put_list s p.items && is_fixed_list p.formats) && are_pairs s ps
+are_pairs s (p ∷ ps) = (is_put_list s p.items && (is_list p.formats && are_shown p.formats p.items)) && are_pairs s ps
 
 abbrev pub is_skip : Option ℕ → Bool
 is_skip None = true
 is_skip (Some lines) = is_times lines
 
--- lines are ended in any scope; numbers are written, behind that, where the scope lets its statements do so
+-- lines are ended in any scope; numbers and texts are written, behind that, where the scope lets its statements do so
 abbrev pub is_put : Scope → (skip : Option ℕ) → List Y.PutPair → Bool
 is_put s None [] = false
 is_put s (Some lines) [] = is_times lines
@@ -71,6 +88,7 @@ is_put s skip (p ∷ ps) = is_skip skip && (s.puts && are_pairs s (p ∷ ps))
 -- how many registers its temporaries need: each number waits in one while its format item is looked for
 abbrev pub put_item_needs : Y.PutItem → ℕ
 put_item_needs (Y.PutValue (Y.NumberValue precision x)) = max (number_needs x) 1
+put_item_needs (Y.PutValue (Y.TextValue x)) = text_needs x
 put_item_needs _ = 0
 
 abbrev pub put_items_need : List Y.PutItem → ℕ

@@ -1,5 +1,5 @@
--- The variables of a procedure's block: FIXED BINARY(31) scalars and arrays of one dimension, and scalars of fewer bits,
--- without INITIAL.
+-- The variables of a procedure's block: FIXED BINARY(31) scalars and arrays of one dimension, scalars of fewer bits,
+-- and pointers, without INITIAL.
 use Rattle.std.specs.Prelude.{ℕ, ◌+◌, ◌%◌, ◌^◌, ◌<◌, ◌≤◌, ◌≡◌, ◌&&◌, ◌||◌, Bool, true, List, [], ◌∷◌, length, Some}
 use Rattle.std.specs.Prelude.{⊤}
 use Rattle.rv_meaning.specs.declared.instr.Instr.{Instr}
@@ -26,21 +26,30 @@ use Rattle.function_runs.specs.Functions.{function_block}
 use Rattle.element_runs.specs.Arrays.{IsArray}
 use Rattle.scalar_runs.specs.Scalars.{IsScalar}
 use Rattle.number_runs.specs.Arrays.{bounds_if, is_array, is_array_if}
+use Rattle.number_runs.specs.Based.{is_area, is_based, is_pointer}
 use Rattle.number_runs.specs.Narrow.{is_narrow, is_narrow_if, type_if}
 use Rattle.number_runs.specs.Numbers.{is_parameter, is_plain, is_plain_if}
 
--- a scalar, an array, or a scalar of fewer bits
+-- a scalar, an array, a scalar of fewer bits, or a pointer
 abbrev pub is_declared : Y.DeclaredVariable → Bool
-is_declared d = is_plain d || (is_array d || is_narrow d)
+is_declared d = is_plain d || (is_array d || (is_narrow d || is_pointer d))
 
 abbrev pub are_plain : List Y.DeclaredVariable → Bool
 are_plain [] = true
 are_plain (d ∷ ds) = is_declared d && are_plain ds
 
+-- areas, too, and what is BASED, of which a block makes nothing
+abbrev pub is_any : Y.DeclaredVariable → Bool
+is_any d = is_based d || (is_declared d || is_area d)
+
+abbrev pub are_any : List Y.DeclaredVariable → Bool
+are_any [] = true
+are_any (d ∷ ds) = is_any d && are_any ds
+
 -- parameters among them, too
 abbrev pub are_known : List Y.DeclaredVariable → Bool
 are_known [] = true
-are_known (d ∷ ds) = (is_declared d || is_parameter d) && are_known ds
+are_known (d ∷ ds) = (is_any d || is_parameter d) && are_known ds
 
 -- ---- as they are made
 

@@ -1,5 +1,6 @@
 // Laws of the definitions: each function's contract is one law, and calling it does nothing.
 
+ghost use Rattle.number_runs.specs.Areas.{AreasMade};
 ghost use Rattle.number_runs.specs.Laws.{BodiesDo, ExpressionsDo, TemporariesFit};
 ghost use Rattle.number_runs.specs.Variables.{WordsMade};
 
@@ -23,4 +24,9 @@ pub fn words_made()
 /// Temporaries of the class wait in registers that the block saves.
 pub fn temporaries_fit()
     ensures { TemporariesFit }
+{}
+
+/// So does one with areas and what is BASED among them, and the name of each area is told there.
+pub fn areas_made()
+    ensures { AreasMade }
 {}

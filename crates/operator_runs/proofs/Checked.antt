@@ -85,7 +85,7 @@ checked_does k over p numbers taken credits index f z x test r s h o line regist
         (R.value_of k.around (cond q (Gives z) (Raises C.FixedOverflow 20 (wrapped 31 z))) acts p.state)) (sym e)
         (onward (number_closed k.block k.labels whole) reach
         (λ g at'. record {
-          to = (
+          to = λ early. (
             e,
             word_here {x = whole} h o (omega arith) refl
                 (stay k.block.call.code whole.wanted g (services_of p)
@@ -111,9 +111,9 @@ checked_does k over p numbers taken credits index f z x test r s h o line regist
         (λ g at'.
         comes_on acts flow next'
         (comes_map (word_aims k.block k.labels (behind p numbers taken (credits + 1) (index + 1) raise') x)
-        (before k.block.call.code goal acts next') flow
+        (before k.block.call.code goal acts next') refl flow
         (λ c' f' v' u s' q. record {
-          to = (
+          to = λ early. (
             wrapped_wide z,
             subst (λ n. HasWord k.block whole n c' f' v' s') is.word_is
                 (word_further

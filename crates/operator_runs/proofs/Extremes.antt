@@ -40,6 +40,7 @@ use Rattle.expression_runs.proofs.Words.{word_here}
 use Rattle.operator_runs.specs.Extremes.{AllDo}
 use Rattle.operator_runs.proofs.Quotients.{sum_zero}
 use Rattle.operator_runs.proofs.Single.{Follows, one_does}
+use Rattle.block_runs.specs.Machines.{limits_of}
 
 -- ---- the further one of two
 
@@ -179,6 +180,7 @@ picked k p numbers c index f h {X} {aims} closed flow Y.Least x y wx wy l at goa
 abbrev all_aims : Setting → Y.Extremum → (x : ℤ) → Stretch → Aims (List ℤ)
 all_aims k extremum x y =
     record {
+      limits = limits_of k.block.call.surroundings;
       done = λ c f v zs s. (number_aims k.block k.labels y).done c f v (extreme extremum x zs) s;
       jumped = λ c f v height label s. (number_aims k.block k.labels y).jumped c f v height label s;
       returned = λ c f v r s. ⊥;
@@ -214,7 +216,7 @@ all_follow k n extremum Y.NoNumber all p numbers taken c index f x h o line regi
     let g = point_ground k.block.call.surroundings p h in
     let here : index ≡ index + 0 = omega arith in
     record {
-      to = (
+      to = λ early. (
         wx,
         word_here {x = whole} h o (omega arith) refl
             (reach_with whole.wanted (omega arith)
@@ -266,6 +268,7 @@ all_follow k n extremum (Y.NumberThen first rest) all p numbers taken c index f 
     let i2 = index + size_of put' in
     comes_on w.acts (V.number k.around first w.acts p.state) next1
     (comes_map (number_aims k.block k.labels (behind p held (taken + 1) c2 i2 part2)) (before code goal w.acts next1)
+    refl
     (V.number k.around first w.acts p.state)
     (λ c3 f3 v3 y s3 q3.
     let o3 = q3.1 in
@@ -292,9 +295,10 @@ all_follow k n extremum (Y.NumberThen first rest) all p numbers taken c index f 
     let y5 = behind p3 o3.numbers taken (c4 + 2) (i4 + 2) last in
     let x5 = further_extreme extremum x y in
     comes_on w.acts (V.numbers k.around rest w.acts p3.state) next2
-    (comes_map (all_aims k extremum x5 y5) (before code goal w.acts next2) (V.numbers k.around rest w.acts p3.state)
+    (comes_map (all_aims k extremum x5 y5) (before code goal w.acts next2)
+    refl (V.numbers k.around rest w.acts p3.state)
     (λ c6 f6 v6 ys s6 q6. record {
-      to = (
+      to = λ early. (
         q6.0,
         word_further
             (record {
@@ -331,8 +335,8 @@ extremes_follow k n extremum more all p numbers taken c index f x h o line regis
     let goal = number_aims k.block k.labels y in
     let next' : List ℤ → Meaning ℤ = λ zs. give (extreme extremum x zs) in
     comes_on w.acts (V.numbers k.around more w.acts p.state) next'
-    (comes_map (all_aims k extremum x y) (before code goal w.acts next') (V.numbers k.around more w.acts p.state)
-    (λ c1 f1 v1 zs s1 q. record { to = q })
+    (comes_map (all_aims k extremum x y) (before code goal w.acts next') refl (V.numbers k.around more w.acts p.state)
+    (λ c1 f1 v1 zs s1 q. record { to = λ early. q })
     (λ c1 f1 v1 height label s1 q. q)
     (λ c1 f1 v1 r s1 q. absurd q)
     (all_follow k n extremum more all p numbers taken c index f x h o line registers wx l paid at))

@@ -155,9 +155,9 @@ divisor_does k over p numbers taken c index f x y first rest h o line registers'
         (λ g at'.
         comes_on acts flow next'
         (comes_map (word_aims k.block k.labels (behind p numbers taken (c + 1) (index + 1) zero_divide_raised) 0)
-        (before k.block.call.code goal acts next') flow
+        (before k.block.call.code goal acts next') refl flow
         (λ c' f' v' u s' q. record {
-          to = (
+          to = λ early. (
             refl,
             passed_over k p numbers taken c index first
                 (subst (λ i. Linked k.block.call.surroundings.links k.block.call.code i

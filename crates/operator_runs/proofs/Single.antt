@@ -54,7 +54,7 @@ one_does k m n need first last meant next' few_m few_n does follows p numbers ta
     let goal = number_aims k.block k.labels (behind p numbers taken c index (a ++ d)) in
     let closed = number_closed k.block k.labels (behind p numbers taken c index (a ++ d)) in
     comes_on w.acts (meant w.acts p.state) next'
-    (comes_map (number_aims k.block k.labels (behind p numbers taken c index a)) (before code goal w.acts next')
+    (comes_map (number_aims k.block k.labels (behind p numbers taken c index a)) (before code goal w.acts next') refl
     (meant w.acts p.state)
     (λ c1 f1 v1 x s1 q1.
     let o1 = q1.1 in
@@ -96,7 +96,7 @@ unfolding give
 straight_gives k p numbers taken c index f z part h o wide at =
     let whole = behind p numbers taken c index part in
     record {
-      to = (
+      to = λ early. (
         wide,
         word_here {x = whole} h o (omega arith) refl
             (stay k.block.call.code whole.wanted f (services_of p)

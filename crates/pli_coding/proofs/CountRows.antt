@@ -14,7 +14,9 @@ use Rattle.pli_coding.specs.Registers as R
 use Rattle.pli_coding.specs.Assembly.{Plain, CallTo, JumpAhead, RaiseCondition, Code, size_of}
 use Rattle.pli_coding.specs.Frames.{MemoryParts}
 use Rattle.pli_coding.specs.Environments.{Environment, none_taken}
+use Rattle.pli_coding.specs.Expressions.{stored_code}
 use Rattle.pli_coding.specs.Statements.{constant_step, step_code, step_added, limit_tested, turn_of, turns_code}
+use Rattle.pli_coding.specs.Statements.{counter_converted, started_code}
 use Rattle.pli_coding.specs.Images.{environment_of}
 use Rattle.pli_coding.proofs.RowPieces.{head, procedure, program, automatic, whole}
 
@@ -110,3 +112,24 @@ counter = Y.NumberCounter 31 (whole (automatic 1 0 0))
 turns_make_acts :
     services_in (turns_code (turn_of anywhere none_taken counter None (Some (pos 0)) None 7 [])) ≡ (1 ∷ 1 ∷ [])
 turns_make_acts = refl
+
+-- ---- numbers of fewer bits
+
+abbrev narrow : Y.Counter
+narrow = Y.NumberCounter 15 (whole (automatic 1 0 0))
+
+abbrev one : Y.Value
+one = Y.NumberValue 31 (number 1)
+
+-- two shifts, a branch, and seven words that raise FIXEDOVERFLOW; the start is loaded by one more
+narrow_counter_is_tested :
+    map size_of
+    (counter_converted none_taken narrow ∷ started_code none_taken narrow one
+    ∷ counter_converted none_taken counter ∷ started_code none_taken counter one ∷ [])
+    ≡ (10 ∷ 11 ∷ 0 ∷ 1 ∷ [])
+narrow_counter_is_tested = refl
+
+-- what is assigned, returned or given as a copy
+narrow_value_is_tested :
+    map (λ p. size_of (stored_code anywhere none_taken (Y.StoredNumber p (number 1)))) (15 ∷ 31 ∷ []) ≡ (11 ∷ 1 ∷ [])
+narrow_value_is_tested = refl

@@ -239,7 +239,7 @@ constant_answers words z wide =
     record {
       does = λ {i} {h} {t} {aims} closed f taken room l at goal.
           onward closed (constant_piece i f a0 z (word_small z wide) free_a0 l at)
-          (λ f' at'. record { to = goal z f' h t wide (stays_same taken h t) at' });
+          (λ f' at'. record { to = λ early. goal z f' h t wide (stays_same taken h t) at' });
     }
 
 elements_answer : {links : Links} {code : List Instr} {g : Ground} {v : Services} {s : State} {k : ℕ} (words : ℕ) (b : Bounds) → IsBounds b → word (b.upper -ℤ b.lower) < 2 ^ 20 → Evaluates number_kind links code g v s k words (λ taken. few_code ElementsAsked b) (give (V.elements_between b))
@@ -268,7 +268,10 @@ elements_answer {g = g} {v = v} {s = s} words b is few =
             body = record { services = o.body.services; registers = o.body.registers; bytes = o.body.bytes; memory = o.body.memory };
             regs = (ap (λ u. sum (operated Op.Subtract u (w 6)) 1) o.regs.1.0 ∙ ap (λ u. sum (operated Op.Subtract (word b.upper) u) 1) o.regs.0 ∙ total, tt);
           }))
-          (λ f3 at3. record { to = subst (λ u. aims.done u f3 v z s) (sym place) (goal z f3 h t wide (stays_same taken h t) (λ base. record { pc = (at3 base).pc ∙ ap (address base) place; holds = (at3 base).holds })) })));
+          (λ f3 at3. record {
+            to = λ early. subst (λ u. aims.done u f3 v z s) (sym place) (goal z f3 h t wide (stays_same taken h t)
+                (λ base. record { pc = (at3 base).pc ∙ ap (address base) place; holds = (at3 base).holds }));
+          })));
     }
 
 -- by what is asked

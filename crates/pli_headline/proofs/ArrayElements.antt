@@ -261,7 +261,7 @@ counted_element_piece {code = code} {i = i} {v = v} {s = s} {aims = aims} {e = e
     (element_place bs is) beside scope.reach (omega (arith, within, below)) (back_of p2 p3 l) at2)
     (λ f3 at3.
     record {
-      to =
+      to = λ early.
           subst (λ u. aims.done u f3 v designated s) (sym there)
           (goal f3 inside (λ b. record { pc = (at3 b).pc ∙ ap (address b) there; holds = (at3 b).holds }));
     }))))
@@ -354,7 +354,7 @@ element_evaluates {kind = kind} {read = read} {links = links} {code = code} {g =
           onward closed q
           (λ f2 at2.
           record {
-            to =
+            to = λ early.
                 subst (λ y. aims.done (i + size_of a + size_of c) f2 v (read y) s) (sym seen)
                 (subst (λ u. aims.done u f2 v (read (value_as type z)) s) (sym there)
                 (goal (read (value_as type z)) f2 h1 t1 (as'.fits z fits) stays (λ b. record { pc = (at2 b).pc ∙ ap (address b) there; holds = record { body = (at2 b).holds.body; regs = ((at2 b).holds.regs.0 ∙ as'.same z fits, tt) } })));
@@ -481,7 +481,7 @@ stored_by_piece true {links = links} {code = code} {i = i} {g = g} g' {v = v} {h
     subst (Comes code (i + size_of a + size_of last) f3 v aims)
     (sym (element_stored type bs scope.serial scope.holds.values is z k s))
     (record {
-      to =
+      to = λ early.
           subst (λ u. aims.done u f3 v tt (element_state s type bs scope.serial scope.holds.values is z)) (sym there)
           (goal is f3 h t inside (stays_same taken h t)
           (λ b. record {
@@ -535,7 +535,7 @@ stored_by_piece false {links = links} {code = code} {i = i} {g = g} g' {v = v} {
     onward closed w (λ f4 at4.
     subst (Comes code (i + size_of put' + size_of a + size_of back + size_of last) f4 v aims) (sym (element_stored type bs scope.serial scope.holds.values is z k s))
     (record {
-      to =
+      to = λ early.
           subst (λ u. aims.done u f4 v tt (element_state s type bs scope.serial scope.holds.values is z)) (sym there)
           (goal is f4 h2 t2 inside (stays_then (stays_saved taken h t (word z)) (stays_less stays))
           (λ b. record { pc = (at4 b).pc ∙ ap (address b) there; holds = record { body = (at4 b).holds.body; regs = tt } }));

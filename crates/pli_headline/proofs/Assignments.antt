@@ -88,7 +88,7 @@ number_stores {code = code} {v = v} {s = s} {k = k} {e = e} {around = around} p 
           (fitted_piece (before_closed k as_value closed) st.routines st.temps f1 around taken p z k few wide
           (λ none. let z = none_spare taken none in omega (arith, z, room, least)) (back_of a c l) st.serving at1
           (λ f2 fits at2. record {
-            to =
+            to = λ early.
                 subst (λ n. aims.done n f2 v (BasicNumber z) s) (sym place)
                 (goal z f2 h1 t1 (few, fits) stays (λ b. record { pc = (at2 b).pc ∙ ap (address b) place; holds = (at2 b).holds }));
           }))));
@@ -103,7 +103,7 @@ bit_stores {v = v} {s = s} {k = k} {e = e} {around = around} x st is =
           comes_on k (V.bit around x k s) as_value
           ((bit_does x st is).does (before_closed k as_value closed) f taken room l at
           (λ b f1 h1 t1 u stays at1. record {
-            to =
+            to = λ early.
                 subst (λ q. aims.done (i + size_of (bit_code e taken x)) f1 v (BasicBit q) s) (bit_back b)
                 (goal (bit_number b) f1 h1 t1 (bit_fits b) stays (λ base. record { pc = (at1 base).pc; holds = record { body = (at1 base).holds.body; regs = ((at1 base).holds.regs.0 ∙ bit_word b, tt) } }));
           }));
@@ -145,7 +145,7 @@ stored_piece {links = links} {code = code} {i = i} g' {v = v} {h = h} {t = t} {s
     (scope.places j below) (λ b. same b h) (λ b m len o. writes t b m len o) l1 at)
     (λ f1 at1.
     record {
-      to =
+      to = λ early.
           subst (λ u. aims.done u f1 v tt (assigned_state s type holds.serial holds.values z)) (sym paid)
           (goal f1 h t (stays_same taken h t) (λ b. record {
             pc = (at1 b).pc ∙ ap (address b) there;

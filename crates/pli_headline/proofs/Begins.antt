@@ -55,6 +55,7 @@ use Rattle.pli_headline.specs.InnerWords.{body_words}
 abbrev pub ending_block : Aims (Option BasicValue) → (State → State) → Aims (Unit {0})
 ending_block aims close =
     record {
+      limits = aims.limits;
       done = λ i f v x s. aims.done i f v None (with_world s.world (close s));
       jumped = λ i f v height label s. aims.jumped i f v height label (with_world s.world (close s));
       returned = λ i f v x s. aims.returned i f v x (with_world s.world (close s));
@@ -74,7 +75,7 @@ comes_ended close (Jump height label s) c = record { to = c.to }
 comes_ended close (Return x s) c = record { to = c.to }
 comes_ended close (F.Ended s) c = record { to = c.to }
 comes_ended close (Paused s) c = record { to = c.to }
-comes_ended close Stuck c = absurd c.to
+comes_ended close Stuck c = record { to = c.to }
 
 -- ---- the code
 
@@ -243,7 +244,7 @@ inner_piece {e} {block} {types} bl {links} {code} around more head body inner lo
     onward closed (inner_left bl inner n3' (inner.at + fixed_size (suc e.level) 0) i4 f3 o.newest o.rest o.are (back_of c3 c4 l3) at3)
     (λ f4 at4.
     record {
-      to =
+      to = λ early.
           subst (λ u. aims.done u f4 v4 tt (with_world s3.world (newest_ended s3))) (sym place)
           (goal (with_world s3.world (newest_ended s3)) v4 o.newest.line n3' h3 f4
           (record {

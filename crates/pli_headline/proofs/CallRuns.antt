@@ -316,7 +316,8 @@ call_piece {e} {block} {types} bl {links} {code} around more head body callee st
       place = (back_of cs en l3).has.0 (eq-eqb head.number head.number refl) once;
       near = omega (arith, room, small');
       later = omega (arith, behind);
-      leaves = λ s5 v5 line5 n5 h5 t5 f5 free5 serving5 all5 at5. record { to = leave s5 v5 line5 n5 h5 t5 f5 free5 serving5 all5 at5 };
+      leaves = λ s5 v5 line5 n5 h5 t5 f5 free5 serving5 all5 at5. record
+          { to = λ early. leave s5 v5 line5 n5 h5 t5 f5 free5 serving5 all5 at5 };
     })
     (omega (arith, enough)) (omega (arith, behind))
     (λ number owned once. let no : head.level ≡ 0 = ap owner_level owned in absurd (omega (arith, no, next)))
@@ -335,7 +336,8 @@ call_piece {e} {block} {types} bl {links} {code} around more head body callee st
     })
     (entered_all head body s (storage v) (called_activation v callee.at) 1 some (omega arith) (omega (arith, long)) direct (record { kind = λ further. refl; units = tt }) refl (inl callee.outer) serving.nested all)
     at3
-    (λ s5 v5 line5 n5 h5 t5 f5 free5 serving5 all5 at5. record { to = leave s5 v5 line5 n5 h5 t5 f5 free5 serving5 all5 at5 })))))))
+    (λ s5 v5 line5 n5 h5 t5 f5 free5 serving5 all5 at5. record
+    { to = λ early. leave s5 v5 line5 n5 h5 t5 f5 free5 serving5 all5 at5 })))))))
 
 -- where too many blocks are entered the run ends
 limited_call : {e : Environment} {block : Names} {types : Types} (bl : Block e block types) {links : Links} {code :

@@ -12,6 +12,7 @@ use Rattle.run_steps.specs.Reach.{Family, Aims, Comes, Closed}
 abbrev pub ending_call : Aims (Option BasicValue) → (State → State) → Aims (Unit {0})
 ending_call aims close =
     record {
+      limits = aims.limits;
       done = λ i f v x s. aims.done i f v None (with_world s.world (close s));
       jumped = λ i f v height label s. aims.jumped i f v height label (with_world s.world (close s));
       returned = λ i f v x s. aims.done i f v x (with_world s.world (close s));
@@ -31,4 +32,4 @@ comes_called close (Jump height label s) c = record { to = c.to }
 comes_called close (Return x s) c = record { to = c.to }
 comes_called close (F.Ended s) c = record { to = c.to }
 comes_called close (Paused s) c = record { to = c.to }
-comes_called close Stuck c = absurd c.to
+comes_called close Stuck c = record { to = c.to }

@@ -200,7 +200,8 @@ landing_by {e} bl {code = code} {k = k} {aims = aims} labels next label false am
       near = o.near;
       later = o.later;
       lands = λ s v line n h t f serving all stays acted' at'.
-          subst (λ q. Comes code o.at f v aims (cond q (next label k s) (Jump (suc (length bl.depths)) label s))) (sym here) (record { to = o.lands s v line n h t f serving all stays acted' at' });
+          subst (λ q. Comes code o.at f v aims (cond q (next label k s) (Jump (suc (length bl.depths)) label s)))
+          (sym here) (record { to = λ early. o.lands s v line n h t f serving all stays acted' at' });
     }
 
 -- a list from its start, or from a label on
@@ -276,7 +277,9 @@ catch_piece {e} {block} {types} bl {links} {code} around body every start behind
             near = o.near;
             later = o.later;
             lands = λ s2 v2 line2 n2 h2 f2 serving2 all2 acted2 at2.
-                subst (λ q. Comes code o.at f2 v2 aims (cond q (next' label k s2) (Jump (suc (length c.depths)) label s2))) (sym past) (record { to = o.lands s2 v2 line2 n2 h2 f2 serving2 all2 acted2 at2 });
+                subst (λ q. Comes code o.at f2 v2 aims (cond q (next' label k s2) (Jump (suc
+                (length c.depths)) label s2))) (sym past)
+                (record { to = λ early. o.lands s2 v2 line2 n2 h2 f2 serving2 all2 acted2 at2 });
           })
           more.outs;
       returns = more.returns;

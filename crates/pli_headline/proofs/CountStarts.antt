@@ -129,7 +129,7 @@ begun_piece {i = i} {v = v} {t = t} {s = s} {e = e} {block = block} {types = typ
     (arith, z, room, words)) lf serving at
     (λ f1 fits1 at1.
     record {
-      to =
+      to = λ early.
           comes_on k (M.assigned here r (BasicNumber z) k s) goes
           (takes.does (before_closed k goes closed) f1 here z n k (few, fits1) lst serving all at1
           (λ s2 n2 h2 t2 f2 serving2 all2 stays2 at2.
@@ -264,7 +264,7 @@ number_starts {e} bl links code routines around r p precision x is low room =
           (omega (arith, low)) l at
           (λ z f1 h1 t1 wide stays at1.
           record {
-            to =
+            to = λ early.
                 goal (V.ComputationalNumber precision z) v f1 h1 (put t1 (w + 2) (word z)) serving refl
                 (stays_then (stays_fewer 3 stays) (stays_kept bl.taken h1 t1 (w + 2) (word z) (omega arith)))
                 (word_loads bl n around r p _ (V.ComputationalNumber precision z) z low
@@ -288,7 +288,7 @@ bit_starts {e} bl links code routines around r p x is low room =
           (bit_does x {e = e} {around = around} (setting bl routines n all serving) is) room (omega (arith, low)) l at
           (λ met f1 h1 t1 fits stays at1.
           record {
-            to =
+            to = λ early.
                 goal (V.ComputationalBit met) v f1 h1 (put t1 (w + 2) (flag met)) serving refl
                 (stays_then (stays_fewer 3 stays) (stays_kept bl.taken h1 t1 (w + 2) (flag met) (omega arith)))
                 (word_loads bl n around r p _ (V.ComputationalBit met) (bit_number met) low
@@ -311,7 +311,7 @@ text_starts {e} {block} bl links code routines around r p x is room =
           ((text_does x {e = e} {around = around} (setting bl routines n all serving) is).does (before_closed k as_value closed) f (before_turns bl.taken) (omega (arith, room, words)) l at
           (λ text f1 h1 t1 short stays at1.
           record {
-            to =
+            to = λ early.
                 goal (V.ComputationalText text) (pushed (TextEntry text) v) f1 h1 t1 (at_other_texts (TextEntry text ∷ v.entries) serving) refl (stays_fewer 3 stays)
                 (record {
                   does = λ {i} {h} {t} {aims} closed' f2 l' waits at2 goal'.

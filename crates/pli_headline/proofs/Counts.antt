@@ -277,7 +277,7 @@ stepping_piece {links = links} {code = code} {i = i} {v = v} {h = h} {t = t} {s 
     (bl.temps n) f5 here taken p z2 k few w2 (λ none. let z = none_spare taken none in omega (arith, z, room, w))
     (back_of d q l5) serving1 at5
     (λ f6 fits6 at6. record {
-      to =
+      to = λ early.
           subst (λ u. Comes code u f6 v1 aims (M.assigned here r (BasicNumber z2) k s)) (sym there)
           (goal z2 f6 h2 t2 (few, fits6) (assigned_unpaused here r (BasicNumber z2) k s normal) stays2 serving1 (λ b. record { pc = (at6 b).pc ∙ ap (address b) there; holds = (at6 b).holds }));
     })))))))))
@@ -426,15 +426,15 @@ head_piece {e} {block} {types} bl {links} {code} routines around r p limit most 
                 (turning_enough bl (further more (omega arith) (omega arith) (stays_fewer 2 (stays_then stays2 stays3)))))))),
             (λ f3 h3 t3 stays3 at3.
                 record {
-                  to =
+                  to = λ early.
                       subst (λ q. aims.done q f3 v' tt s') (sym over2)
                       (goal s' v' line n h3 t3 f3 serving1 all1 (stays_fewer 2 (stays_then stays2 stays3)) (λ b. record { pc = (at3 b).pc ∙ ap (address b) over2; holds = (at3 b).holds }));
                 }),
           )),
       (λ f2 h2 t2 stays2 at2.
           record {
-            to = record {
-              to =
+            to = λ early. record {
+              to = λ early.
                   subst (λ q. aims.done q f2 v' tt s') (sym over1)
                   (goal s' v' line n h2 t2 f2 serving1 all1 (stays_fewer 2 stays2) (λ b. record { pc = (at2 b).pc ∙ ap (address b) over1; holds = (at2 b).holds }));
             };
@@ -507,7 +507,10 @@ unfolding M.limit_of ◌>>=◌ give
 limit_kept_piece {i = i} {v = v} {h = h} {t = t} {s = s}
     {aims = aims} bl routines around None n closed f k is low room l serving all at goal =
     let same : i ≡ i + 0 = omega arith in
-    record { to = subst (λ u. aims.done u f v None s) (sym same) (goal None f h t tt (stays_same bl.taken h t) refl (λ b. record { pc = (at b).pc ∙ ap (address b) same; holds = (at b).holds })) }
+    record {
+      to = λ early. subst (λ u. aims.done u f v None s) (sym same) (goal None f h t tt
+          (stays_same bl.taken h t) refl (λ b. record { pc = (at b).pc ∙ ap (address b) same; holds = (at b).holds }));
+    }
 limit_kept_piece {h = h} {t = t} {s = s} bl routines around (Some x) n closed f k is low room l serving all at goal =
     let w = bl.taken.words in
     let next' : ℤ → Meaning (Option ℤ) = λ z. give (Some z) in
@@ -516,7 +519,7 @@ limit_kept_piece {h = h} {t = t} {s = s} bl routines around (Some x) n closed f 
     (omega (arith, low)) l serving all at
     (λ z f1 h1 t1 wz stays at1.
     record {
-      to =
+      to = λ early.
           goal (Some z) f1 h1 (put t1 w (word z)) (wz, put_same t1 w (word z)) (stays_then (stays_fewer 3 stays) (stays_kept bl.taken h1 t1 w (word z) (omega arith)))
           (put_apart t1 w (word z) (w + 2) (other_place (w + 2) w (omega arith)) ∙ stays.words (w + 2) (omega arith)) at1;
     }))
@@ -552,7 +555,7 @@ step_kept_piece {code = code} {i = i} {v = v} {h = h} {t = t} {s = s} {aims = ai
     let same : i ≡ i + 0 = omega arith in
     subst (Comes code i f v aims) (sym (constant.means around k s))
     (record {
-      to =
+      to = λ early.
           subst (λ u. aims.done u f v z s) (sym same)
           (goal z f h t constant.wide refl refl refl (stays_same bl.taken h t) (λ b. record {
             pc =

@@ -21,6 +21,7 @@ use Rattle.run_steps.proofs.Reach.{reach_later, reached_later}
 abbrev pub later : {R : Type 0} → (more : ℕ) → Aims R → Aims R
 later more aims =
     record {
+      limits = aims.limits;
       done = λ i f v x s. aims.done (i + more) f v x s;
       jumped = λ i f v height label s. aims.jumped (i + more) f v height label s;
       returned = λ i f v x s. aims.returned (i + more) f v x s;
@@ -45,10 +46,13 @@ comes_later more (Normal x s) unpaused c = record { to = c.to }
 comes_later more (Jump height label s) unpaused c = record { to = c.to }
 comes_later more (Return x s) unpaused c = record { to = c.to }
 comes_later more (F.Ended s) unpaused c =
-    let e = c.to.2 in
-    record { to = (c.to.0, c.to.1, record { count = e.count; over = e.over; goes = e.goes }) }
+    record {
+      to = λ early.
+          let e = (c.to early).2 in
+          ((c.to early).0, (c.to early).1, record { count = e.count; over = e.over; goes = e.goes });
+    }
 comes_later more (Paused s) unpaused c = absurd unpaused
-comes_later more Stuck unpaused c = absurd c.to
+comes_later more Stuck unpaused c = record { to = c.to }
 
 -- ---- flows with a result
 
@@ -58,7 +62,13 @@ IsNormal _ = ⊥
 
 -- any result will do
 abbrev pub idle : {R : Type 0} → Aims R → Aims R
-idle aims = record { done = λ i f v x s. Unit {0}; jumped = aims.jumped; returned = aims.returned }
+idle aims =
+    record {
+      limits = aims.limits;
+      done = λ i f v x s. Unit {0};
+      jumped = aims.jumped;
+      returned = aims.returned;
+    }
 
 pub idle_closed : {R : Type 0} {code : List Instr} {aims : Aims R} → Closed code aims → Closed code (idle aims)
 idle_closed closed = record { done = λ r x s a. tt; jumped = closed.jumped; returned = closed.returned }
@@ -70,7 +80,7 @@ comes_known (Jump height label s) c known = record { to = c.to }
 comes_known (Return x s) c known = record { to = c.to }
 comes_known (F.Ended s) c known = record { to = c.to }
 comes_known (Paused s) c known = record { to = c.to }
-comes_known Stuck c known = absurd c.to
+comes_known Stuck c known = record { to = c.to }
 
 first_normal : {Q R : Type 0} (k : ℕ) (flow : Flow Q) (next' : Q → Meaning R) → IsNormal (flow_on k flow next') → IsNormal flow
 first_normal k (Normal q s) next' h = tt

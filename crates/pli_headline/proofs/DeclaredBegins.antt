@@ -273,7 +273,7 @@ declaring_piece {e} {block} {types} bl {links} {code} around more head body inne
     onward closed (inner_left bl inner n3' free i4 f3 o.newest o.rest o.are (back_of c3 c4 l3) at3)
     (λ f4 at4.
     record {
-      to =
+      to = λ early.
           subst (λ u. aims.done u f4 v4 tt (with_world s3.world (newest_ended s3))) (sym place)
           (goal (with_world s3.world (newest_ended s3)) v4 o.newest.line n3' h3 f4
           (record {

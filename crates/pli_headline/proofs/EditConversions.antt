@@ -93,7 +93,8 @@ converted_shown bl {code = code} {i = i} {v = v} {s = s} {aims = aims} closed ro
     let last : Unit {0} → Meaning (List FormatItem) = λ q. give left in
     comes_on k (P.shown_by around (ComputationalText text) (FixedItem width) k s) last
     (converted_piece (before_closed k last closed) routines f around width whole left below text texts k top found l serving at
-    (λ field f1 serving1 at1. record { to = goal (shown_state field s) _ f1 serving1 (counted_all _ all) refl at1 }))
+    (λ field f1 serving1 at1. record
+    { to = λ early. goal (shown_state field s) _ f1 serving1 (counted_all _ all) refl at1 }))
 
 as_it_is_shown : {e : Environment} {block : Names} {types : Types} (bl : Block e block types) {links : Links} {code : List Instr} {i : ℕ} {v : Services} {h t : ℕ → ℕ} {s : State} {aims : Aims (List FormatItem)} (closed : Closed code aims) (f : Family) (around : Around) (width : Option ℕ) (n : Values) (whole left : List FormatItem) (below : List EditPlace) (text : List ℕ) (texts : List Entry) (k : ℕ) → v.entries ≡ TextEntry text ∷ texts → Finds v.edits (DataFormat (TextItem width)) whole left below → Linked links code i text_written → Serving k s v around.line → AllHold bl.frames bl.serials (storage v) (e.level ∷ bl.depths) s block types n → ((b : Base) → At b i (Known (bl.ground n) v h t nothing b) (f b)) → ValueBehind bl k around.line h t (i + 2) n whole left below aims → Comes code i f v aims (((P.shown_by around (ComputationalText text) (TextItem width)) >> (give left)) k s)
 unfolding ◌>>◌ give
@@ -101,7 +102,8 @@ as_it_is_shown bl {s = s} closed f around width n whole left below text texts k 
     let last : Unit {0} → Meaning (List FormatItem) = λ q. give left in
     comes_on k (P.shown_by around (ComputationalText text) (TextItem width) k s) last
     (text_piece (before_closed k last closed) f around (ComputationalText text) width whole left below texts k found top l serving at
-    (λ field f1 serving1 at1. record { to = goal (shown_state field s) _ f1 serving1 (counted_all _ all) refl at1 }))
+    (λ field f1 serving1 at1. record
+    { to = λ early. goal (shown_state field s) _ f1 serving1 (counted_all _ all) refl at1 }))
 
 pub text_shown : {e : Environment} {block : Names} {types : Types} (bl : Block e block types) {links : Links} {code : List Instr} {i : ℕ} {v : Services} {h t : ℕ → ℕ} {s : State} {aims : Aims (List FormatItem)} (closed : Closed code aims) (routines : Routines links code) (f : Family) (around : Around) (fs : T.Formats) (d : DataItem) (n : Values) (whole left : List FormatItem) (below : List EditPlace) (text : List ℕ) (texts : List Entry) (k : ℕ) → IsOf (has_fixed fs) (has_text fs) d → v.entries ≡ TextEntry text ∷ texts → Finds v.edits (DataFormat d) whole left below → Linked links code i (by_item fs text_by_fixed text_written) → Serving k s v around.line → AllHold bl.frames bl.serials (storage v) (e.level ∷ bl.depths) s block types n → ((b : Base) → At b i (Known (bl.ground n) v h t (valued (E.data_number d)) b) (f b)) → ValueBehind bl k around.line h t (i + size_of (by_item fs text_by_fixed text_written)) n whole left below aims → Comes code i f v aims (((P.shown_by around (ComputationalText text) d) >> (give left)) k s)
 text_shown bl closed routines f around fs (FixedItem width) n whole left below text texts k is top found l serving all at goal =

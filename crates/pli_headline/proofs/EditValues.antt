@@ -88,7 +88,7 @@ fixed_shown bl {i = i} {v = v} {s = s} {aims = aims} closed routines f around wi
     (subst (Comes _ (i + size_of back) f1 v _) (sym (as'.number width k s))
     (field_piece (before_closed k last closed) routines f1 around width whole left below p z k wide found (back_of back number_written l) serving at1
     (λ field f2 serving2 at2. record {
-      to =
+      to = λ early.
           let v2 = fielded field (putting whole left ∷ below) v in
           subst (λ q. aims.done q f2 v2 left (shown_state field s)) (sym place)
           (goal (shown_state field s) v2 f2 serving2 (counted_all _ all) refl (λ b. record { pc = (at2 b).pc ∙ ap (address b) place; holds = (at2 b).holds }));
@@ -113,7 +113,7 @@ text_shown bl {i = i} {v = v} {s = s} {aims = aims} closed f around width texts 
     comes_on k (P.shown_by around shown (TextItem width) k s) last
     (text_piece (before_closed k last closed) f2 around shown width whole left below v.entries k found refl (back_of (as_text p) text_written l1) (at_other_texts _ serving) at2
     (λ field f3 serving3 at3. record {
-      to =
+      to = λ early.
           let v3 = texted field (putting whole left ∷ below) v.entries v1 in
           subst (λ q. aims.done q f3 v3 left (shown_state field s)) (sym place)
           (goal (shown_state field s) v3 f3 serving3 (counted_all _ all) refl (λ b. record { pc = (at3 b).pc ∙ ap (address b) place; holds = (at3 b).holds }));

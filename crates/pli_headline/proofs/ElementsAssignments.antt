@@ -223,7 +223,7 @@ elements_does {e} {block} {types} bl links code routines around j {type} b bs so
           (λ b' m long held. stands_filled {ground = bl.ground} on z fits2 n 0 count (omega arith) mine.fits _ b' m long held)
           (back_of a fill l1) at2
           (λ f3 stays3 at3. record {
-            to =
+            to = λ early.
                 subst (λ u. aims.done u f3 v1 tt (all_state s1 type (b ∷ bs) (bl.serials.of j) mine.values z)) (sym there)
                 (goal (all_state s1 type (b ∷ bs) (bl.serials.of j) mine.values z) v1 line n' _ _ f3
                 (record { world = serving1.world; running = serving1.running; line_is = serving1.line_is; input = serving1.input; allowed = serving1.allowed; fits = serving1.fits; nested = serving1.nested; waiting = serving1.waiting; places = serving1.places })

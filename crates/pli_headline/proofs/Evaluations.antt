@@ -80,7 +80,7 @@ straight_operates {kind = kind} {g = g} {v = v} z fits items =
     record {
       does = λ {i} {h} {t} {aims} closed f taken room l at goal.
           onward closed (straight i f v v (λ b. Known g v h t (valued (kind.word_of z)) b) l (omega arith) (λ b. (at b).pc) (λ b. items h t b i (f b) (at b).holds))
-          (λ f' at'. record { to = goal z f' fits at' });
+          (λ f' at'. record { to = λ early. goal z f' fits at' });
     }
 
 -- ---- one operand
@@ -94,7 +94,12 @@ read_evaluates {v = v} {s = s} {k = k} {meaning = meaning} read fit same e =
           comes_on k (meaning k s) (λ x. give (read x))
           (e.does (before_closed k (λ x. give (read x)) closed) f taken room l at
           (λ x f' h' t' fits stays at'. record {
-            to = goal (read x) f' h' t' (fit x fits) stays (λ b. record { pc = (at' b).pc; holds = record { body = (at' b).holds.body; regs = ((at' b).holds.regs.0 ∙ same x, tt) } });
+            to = λ early. goal (read x) f' h' t' (fit x fits) stays
+                (λ b. record {
+                  pc = (at' b).pc;
+                  holds = record
+                      { body = (at' b).holds.body; regs = ((at' b).holds.regs.0 ∙ same x, tt) };
+                });
           }));
     }
 

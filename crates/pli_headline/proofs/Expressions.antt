@@ -110,7 +110,7 @@ constant_does e around n is =
       does = λ {i} {h} {t} {aims} closed f taken room l at goal.
           let wide = constant_wide n is in
           onward closed (constant_piece i f a0 (pos n) (word_small (pos n) wide) free_a0 l at)
-          (λ f' at'. record { to = goal (pos n) f' h t wide (stays_same taken h t) at' });
+          (λ f' at'. record { to = λ early. goal (pos n) f' h t wide (stays_same taken h t) at' });
     }
 
 -- a variable of a type, read as a value of some kind
@@ -119,7 +119,15 @@ unfolding give
 own_piece kind {i = i} {h = h} {t = t} closed e block types held f taken j k {type} below numeric x fits same scope l at goal =
     let place = data_place e block j in
     let r = read_based (level_of block j == e.level) (level_of block j) i f (scope.base j) (load_kind type) (pos place) (scope.base j + place) (λ b. word (held.numbers j)) (scope.reach j below) (scope.within j below) (scope.places j below) (λ b m o. scope.reads j below numeric t b m o) l at in
-    onward closed r (λ f' at'. record { to = goal x f' h t fits (stays_same taken h t) (λ b. record { pc = (at' b).pc; holds = record { body = (at' b).holds.body; regs = ((at' b).holds.regs.0 ∙ same, tt) } }) })
+    onward closed r
+    (λ f' at'. record {
+      to = λ early. goal x f' h t fits (stays_same taken h t)
+          (λ b. record {
+            pc = (at' b).pc;
+            holds = record
+                { body = (at' b).holds.body; regs = ((at' b).holds.regs.0 ∙ same, tt) };
+          });
+    })
 
 own_does : {links : Links} {code : List Instr} {g : Ground} {v : Services} {s : State} {k : ℕ} {e : Environment} {block : Names} {types : Types} {held : Values} (around : Around) (r : Y.Reference) (words p : ℕ) → IsOwn block types (Y.FixedLeaf p) r → Scope g e block types s held → Evaluates number_kind links code g v s k words (λ taken. number_code e taken (Y.NumberIn r)) (V.number around (Y.NumberIn r))
 own_does {links} {code} {g} {v} {s} {k} {e} {block} {types} {held} around r words p is scope =
@@ -173,7 +181,7 @@ bit_does' {g = g} {v = v} n b few e =
             body = record { services = o.body.services; registers = o.body.registers; bytes = o.body.bytes; memory = o.body.memory };
             regs = (small_is _ n (zero_is o.body) (omega (arith, few)) ∙ e, tt);
           }))
-          (λ f' at'. record { to = goal b f' h t tt (stays_same taken h t) at' });
+          (λ f' at'. record { to = λ early. goal b f' h t tt (stays_same taken h t) at' });
     }
 
 -- ---- references

@@ -95,7 +95,10 @@ follows_none {v = v} {s = s} extremum =
     record {
       does = λ {i} {h} {t} {aims} closed f taken a wa room l at goal.
           let e : i ≡ i + 0 = omega arith in
-          record { to = subst (λ u. aims.done u f v [] s) (sym e) (goal [] f h t wa (stays_same taken h t) (λ b. record { pc = (at b).pc ∙ ap (address b) e; holds = (at b).holds })) };
+          record {
+            to = λ early. subst (λ u. aims.done u f v [] s) (sym e) (goal [] f h t wa (stays_same taken h t)
+                (λ b. record { pc = (at b).pc ∙ ap (address b) e; holds = (at b).holds }));
+          };
     }
 
 -- the value waits while the next one is evaluated
@@ -147,7 +150,7 @@ follows_next {links = links} {code = code} {g = g} {v = v} {s = s} {k = k} temps
           (fs.does (before_closed k (λ zs. give (z ∷ zs)) closed) f4 taken (further_extreme extremum a z) wide (omega (arith, room, m2)) l6 at4
           (λ zs f5 h5 t5 wide5 stays5 at5.
           record {
-            to =
+            to = λ early.
                 subst (λ u. aims.done u f5 v (z ∷ zs) s) (sym place)
                 (goal (z ∷ zs) f5 h5 t5 wide5 (stays_then (stays_saved taken h t (word a)) (stays_then (stays_less stays2) stays5)) (λ b. record { pc = (at5 b).pc ∙ ap (address b) place; holds = (at5 b).holds }));
           })))))));
@@ -172,7 +175,7 @@ extreme_evaluates {v = v} {s = s} {k = k} m n extremum {first = first} {rest = r
           (fs.does (before_closed k (λ zs. give (extreme extremum z zs)) closed) f1 taken z wz (omega (arith, room, m2)) (back_of a d l) at1
           (λ zs f2 h2 t2 wide stays2 at2.
           record {
-            to =
+            to = λ early.
                 subst (λ u. aims.done u f2 v (extreme extremum z zs) s) (sym place)
                 (goal (extreme extremum z zs) f2 h2 t2 wide (stays_then stays1 stays2) (λ b. record { pc = (at2 b).pc ∙ ap (address b) place; holds = (at2 b).holds }));
           }))));

@@ -131,7 +131,7 @@ data_piece {i = i} {v = v} {s = s} {aims = aims} closed fixed text f d left foun
     let r = skip_taken (i + 2) f Test.NotEqual a0 zero_register back_code (back_of (service 35) test_code l) at (λ b. data_not_zero v.input d _ _ (at b).holds.regs.0 (zero_is (at b).holds.body)) in
     onward closed r (λ f1 at1.
     record {
-      to =
+      to = λ early.
           subst (λ u. aims.done u f1 v (Some (d, left)) s) (sym e)
           (goal s v f1 d left under found suits (λ b. record { pc = (at1 b).pc ∙ ap (address b) e; holds = (at1 b).holds }));
     })
@@ -148,7 +148,8 @@ again_piece {v = v} {s = s} {k = k} {first = first} {more = more} {below = below
 -- behind a call, from what a0 tells on
 passes_piece : {links : Links} {code : List Instr} {i : ℕ} {g : Ground} {h t : ℕ → ℕ} {Q : Storage → State → Type 0} {line k : ℕ} {first : FormatItem} {more : List FormatItem} {below : List EditPlace} {aims : Aims (Option (DataItem × List FormatItem))} (kept : Kept Q) (closed : Closed code aims) (fixed text : Bool) (items : List FormatItem) (f : Family) (s : State) (v : Services) → GetsAt v.edits items (first ∷ more) below → Suits fixed text items → Linked links code i controls_carried_out → Reading Q k line s v → ((b : Base) → At b (i + 2) (Known g v h t (valued (number_in v.input (next_of first items))) b) (f b)) → DataBehind g h t Q k line fixed text (i + 5) (first ∷ more) below Some aims → EndBehind g h t Q k line (i + 2) first more below items aims → Comes code (i + 2) f v aims (P.controls P.control_got items k s)
 unfolding P.controls give
-passes_piece kept closed fixed text [] f s v found suits l under at goal ended = record { to = ended refl s v f under found at }
+passes_piece kept closed fixed text [] f s v found suits l under at goal ended = record
+    { to = λ early. ended refl s v f under found at }
 passes_piece kept closed fixed text (DataFormat d ∷ left) f s v found suits l under at goal ended =
     data_piece closed fixed text f d left found suits l under at goal
 passes_piece {code = code} {i = i} {first = first} {more = more} {below = below} kept closed fixed text (ControlFormat item ∷ left) f s v found suits l under at goal ended =
@@ -189,16 +190,18 @@ next_piece kept closed fixed text f [] rest below k has suits left_suits edits l
 next_piece {s = s} {v = v} kept closed fixed text f (first ∷ more) [] below k has suits left_suits edits l under at goal =
     comes_on k (P.controls P.control_got (first ∷ more) k s) found_again
     (called_piece kept (before_closed k found_again closed) fixed text f first more (gets_again v.edits first more below edits) suits l under at
-    (λ s1 v1 f1 d left under1 found1 suits1 at1. record { to = goal s1 v1 f1 d left under1 found1 suits1 at1 })
+    (λ s1 v1 f1 d left under1 found1 suits1 at1. record { to = λ early. goal s1 v1 f1 d left under1 found1 suits1 at1 })
     (λ none. true_false (has_data (first ∷ more)) has none))
 next_piece {s = s} {v = v} kept closed fixed text f (first ∷ more) (x ∷ left) below k has suits left_suits edits l under at goal =
     let again : Meaning (DataItem × List FormatItem) = (P.controls P.control_got (first ∷ more)) >>= found_again in
     let next' : Option (DataItem × List FormatItem) → Meaning (DataItem × List FormatItem) = λ o. given o give again in
     comes_on k (P.controls P.control_got (x ∷ left) k s) next'
     (called_piece kept (before_closed k next' closed) fixed text f x left (λ next. ap (λ u. E.on_next u next) edits) left_suits l under at
-    (λ s1 v1 f1 d behind under1 found1 suits1 at1. record { to = goal s1 v1 f1 d behind under1 found1 suits1 at1 })
+    (λ s1 v1 f1 d behind under1 found1 suits1 at1. record
+    { to = λ early. goal s1 v1 f1 d behind under1 found1 suits1 at1 })
     (λ none s1 v1 f1 under1 edits1 at1.
     comes_on k (P.controls P.control_got (first ∷ more) k s1) found_again
     (passes_piece kept (before_closed k found_again closed) fixed text (first ∷ more) f1 s1 v1 (gets_again v1.edits first more below edits1) suits l under1 at1
-    (λ s2 v2 f2 d behind under2 found2 suits2 at2. record { to = goal s2 v2 f2 d behind under2 found2 suits2 at2 })
+    (λ s2 v2 f2 d behind under2 found2 suits2 at2. record
+    { to = λ early. goal s2 v2 f2 d behind under2 found2 suits2 at2 })
     (λ none2. true_false (has_data (first ∷ more)) has none2))))

@@ -82,7 +82,7 @@ pub comes_read : {code : List Instr} {c : ℕ} {f : Family} {v : Services} {aims
 unfolding ◌>>◌ stored
 comes_read change k s e p go =
     let next' : Unit {0} → Meaning (Unit {0}) = λ u. stored (with_input change) in
-    comes_on k (act counted k s) next' (comes_act counted k s e p (λ below. record { to = go below }))
+    comes_on k (act counted k s) next' (comes_act counted k s e p (λ below. record { to = λ early. go below }))
 
 -- ---- answers
 

@@ -204,7 +204,7 @@ fixed_taken {code = code} {i = i} {g = g} {v = v} {h = h} {t = t} {s = s} {aims 
     (number_tested o (before_closed k next3 closed1) routines f1 around k x (back_of (service 36) status_tested l) serving1 at1
     (λ z f2 is at2.
     record {
-      to =
+      to = λ early.
           field_comes around r left type (NumberField z) k s' is_type
           (subst (λ u. Comes code u f2 v' (converting code aims k around r left) (P.field_converted around (kind_of [] type) (NumberField z) k s')) (sym e)
           (behind z f2 (number_wide text z is) (record { serving = serving1; holds = kept.keeps _ change s under.holds }) (λ b. record { pc = (at2 b).pc ∙ ap (address b) e; holds = (at2 b).holds })));
@@ -261,7 +261,7 @@ text_taken {code = code} {i = i} {v = v} {s = s} {aims = aims} kept closed f aro
     (λ b. record { pc = (at b).pc; holds = record { body = (at b).holds.body; regs = (refl, (refl, tt)) } })
     (λ f1 allowed at1.
     record {
-      to =
+      to = λ early.
           field_comes around r left type (TextField text) k (read_state change s) is
           (next' f1 (record { serving = read_serving change places (places_next v _ below found under.serving.places) under.serving allowed; holds = kept.keeps _ change s under.holds }) (λ b. record { pc = (at1 b).pc; holds = record { body = (at1 b).holds.body; regs = tt } }));
     })))

@@ -191,7 +191,7 @@ field_call {code = code} {i = i} {g = g} {v = v} {h = h} {t = t} {s = s} {aims =
     comes_on k (act counted k s) next'
     (comes_act counted k s serving.world pauses
     (λ below. record {
-      to =
+      to = λ early.
           closed.done q (Some (field_of width s.input)) (read_state (behind_field width) s)
           (subst (λ u. aims.done (i + 2) (reached q) v' (Some (field_of width u)) (read_state (behind_field width) s)) serving.input
           (goal (reached q) below (λ b. record { pc = (reached_holds q b).pc ∙ ap (address b) e; holds = (reached_holds q b).holds })));
@@ -221,4 +221,11 @@ number_tested None {code = code} {i = i} closed routines f around k x l serving 
     (λ b. record { pc = (at2 b).pc; holds = record { body = (at2 b).holds.body; regs = ((at2 b).holds.regs.1.0, tt) } })))
 number_tested (Some z) {i = i} closed routines f around k x l serving at goal =
     onward closed (skip_taken i f Test.Equal a1 zero_register (JumpTo RaiseError ∷ []) l at (λ b. is_zero _ _ (at b).holds.regs.1.0 (zero_is (at b).holds.body)))
-    (λ f1 at1. record { to = goal z f1 refl (λ b. record { pc = (at1 b).pc; holds = record { body = (at1 b).holds.body; regs = ((at1 b).holds.regs.0, tt) } }) })
+    (λ f1 at1. record {
+      to = λ early. goal z f1 refl
+          (λ b. record {
+            pc = (at1 b).pc;
+            holds = record
+                { body = (at1 b).holds.body; regs = ((at1 b).holds.regs.0, tt) };
+          });
+    })

@@ -139,7 +139,8 @@ value_stored : {e : Environment} {block : Names} {types : Types} (bl : Block e b
 unfolding give
 value_stored bl {v = v} closed f around r takes z n fixed text all left below k fits suits edits l serving hold at goal =
     takes.does (before_closed k (rest_given left) closed) f around z n k fits l serving hold at
-    (λ s1 n1 h1 t1 f1 serving1 hold1 stays1 at1. record { to = goal s1 v left n1 h1 t1 f1 serving1 hold1 suits edits stays1 at1 })
+    (λ s1 n1 h1 t1 f1 serving1 hold1 stays1 at1. record
+    { to = λ early. goal s1 v left n1 h1 t1 f1 serving1 hold1 suits edits stays1 at1 })
 
 -- ---- numbers
 
@@ -170,7 +171,7 @@ number_stored {e} {block} {types} bl {code = code} {i = i} {v = v} {s = s} {aims
     (arith, z, room, w)) (front_of fit last l) serving at
     (λ f1 fits at1.
     record {
-      to =
+      to = λ early.
           value_stored bl closed f1 around r takes z n fixed text all left below k (few, fits) suits edits (back_of fit last l) serving hold at1
           (λ s2 v2 rest2 n2 h2 t2 f2 serving2 hold2 suits2 edits2 stays2 at2.
           subst (λ u. aims.done u f2 v2 (Some rest2) s2) (sym place)
@@ -206,7 +207,7 @@ bit_stored {e} {block} {types} bl {links} {code} {i} {v} {h} {t} {s} {aims} clos
     (λ b m x3 x4. bit_answer code w m field v.entries refl) (front_of call last l1) (at_other_texts (TextEntry field ∷ v.entries) serving) at1
     (λ q f2 is at2.
     record {
-      to =
+      to = λ early.
           subst (λ u. Comes code (i + 1 + 5) f2 v' (before code aims k (rest_given left)) (stored_value around r (BasicBit u) k s)) (bit_back q)
           (value_stored bl closed f2 around r takes (bit_number q) n fixed text all left below k (bit_fits q) suits edits (back_of call last l1) (at_other_texts v.entries serving) hold
           (λ b. record { pc = (at2 b).pc; holds = record { body = (at2 b).holds.body; regs = ((at2 b).holds.regs.0 ∙ bit_word q, tt) } })
@@ -222,9 +223,10 @@ text_kept_piece : {e : Environment} {block : Names} {types : Types} (bl : Block 
 unfolding give
 text_kept_piece bl {v = v} closed f around r takes field n fixed text all left below k suits edits l serving hold at goal =
     record {
-      to =
+      to = λ early.
           takes.does (before_closed k (rest_given left) closed) f around field n k l serving hold at
-          (λ s1 n1 h1 t1 f1 serving1 hold1 stays1 at1. record { to = goal s1 v left n1 h1 t1 f1 serving1 hold1 suits edits stays1 at1 });
+          (λ s1 n1 h1 t1 f1 serving1 hold1 stays1 at1. record
+          { to = λ early. goal s1 v left n1 h1 t1 f1 serving1 hold1 suits edits stays1 at1 });
     }
 
 -- a field is read into it
@@ -397,7 +399,10 @@ reference_piece {e} {block} {types} bl {links} {code} {i} {v} {h} {t} {s} {aims}
     subst (Comes code (i + 5 + 1 + 1) f2 v1 aims) (sym (ended_got (λ u. next1 u left) around d k s1 suits1.1.0 none'))
     (end_raised bl closed routines around can (give None) n f2 b0 exit k start acts (omega (arith, size, place_is)) inside l3 under1.serving under1.holds at2 more (omega (arith, later, grown))
     (λ s3 v3 line3 n3 h3 f3 serving3 hold3 as3 stays3 at3.
-    record { to = ended s3 v3 line3 n3 h3 t f3 serving3 hold3 (as3 ∙ next_length v1 _ v1.edits below found1) stays3 at3 }))))))
+    record {
+      to = λ early. ended s3 v3 line3 n3 h3 t f3 serving3 hold3
+          (as3 ∙ next_length v1 _ v1.edits below found1) stays3 at3;
+    }))))))
 
 pub item_piece : {e : Environment} {block : Names} {types : Types} (bl : Block e block types) {links : Links}
     {code : List Instr} (item : Y.GetItem) {i : ℕ} {v : Services} {h t : ℕ → ℕ} {s : State}

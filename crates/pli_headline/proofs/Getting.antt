@@ -93,7 +93,8 @@ unfolding P.items_got ◌>>=◌ give given
 items_piece bl [] {i = i} {v = v} {h = h} {t = t} {s = s} {aims = aims} closed routines f around same fs n rest below behind k can exit start acts place_is inside more later is room are has wide suits edits l serving all at goal ended =
     let e : i ≡ i + 0 = omega arith in
     record {
-      to = subst (λ u. aims.done u f v true s) (sym e) (goal s v rest n h t f serving all edits (stays_same bl.taken h t) (λ b. record { pc = (at b).pc ∙ ap (address b) e; holds = (at b).holds }));
+      to = λ early. subst (λ u. aims.done u f v true s) (sym e) (goal s v rest n h t f serving all edits
+          (stays_same bl.taken h t) (λ b. record { pc = (at b).pc ∙ ap (address b) e; holds = (at b).holds }));
     }
 items_piece {e} {block} {types} bl {links} {code} (item ∷ items) {i} {v} {h} {t} {s} {aims} closed routines f around same fs n rest below behind k can exit start acts place_is inside more later is room are has wide suits edits l serving all at goal ended =
     let c = C.items_got e bl.taken fs behind items in
@@ -112,7 +113,8 @@ items_piece {e} {block} {types} bl {links} {code} (item ∷ items) {i} {v} {h} {
     subst (λ u. aims.done u f3 v3 true s3) (sym place)
     (goal s3 v3 rest3 n3 h3 t3 f3 serving3 all3 edits3 (stays_then stays2 stays3) (λ b. record { pc = (at3 b).pc ∙ ap (address b) place; holds = (at3 b).holds })))
     (λ s3 v3 line3 n3 h3 t3 f3 serving3 all3 length3 stays3 at3. ended s3 v3 line3 n3 h3 t3 f3 serving3 all3 length3 (stays_then stays2 stays3) at3))
-    (λ s2 v2 line2 n2 h2 t2 f2 serving2 all2 length2 stays2 at2 grown. record { to = ended s2 v2 line2 n2 h2 t2 f2 serving2 all2 length2 stays2 at2 })))
+    (λ s2 v2 line2 n2 h2 t2 f2 serving2 all2 length2 stays2 at2 grown. record
+    { to = λ early. ended s2 v2 line2 n2 h2 t2 f2 serving2 all2 length2 stays2 at2 })))
 
 -- ---- pairs
 
@@ -128,7 +130,7 @@ exit_piece bl {v = v} {h = h} {t = t} {s = s} {line = line} {aims = aims} closed
     end_piece closed f p ds are l at
     (λ f1 at1.
     record {
-      to =
+      to = λ early.
           subst (λ u. aims.done u f1 (at_places ds v) tt s) (sym there)
           (goal s (at_places ds v) line n h t f1 (at_other_places ds (subst (λ m. PlacesHeld m v.activations) (sym rest) held) serving) all stays (λ b. record { pc = (at1 b).pc ∙ ap (address b) there; holds = (at1 b).holds }));
     }))
@@ -153,7 +155,8 @@ pairs_piece bl [] {i = i} {v = v} {h = h} {t = t} {s = s} {aims = aims} closed r
     onward closed (ahead_piece i f 2 (omega (arith, inside)) free_far l at)
     (λ f1 at1.
     record {
-      to = subst (λ u. aims.done u f1 v tt s) (sym e) (goal s v around.line n h t f1 serving all (stays_same bl.taken h t) (λ b. record { pc = (at1 b).pc ∙ ap (address b) e; holds = (at1 b).holds }));
+      to = λ early. subst (λ u. aims.done u f1 v tt s) (sym e) (goal s v around.line n h t f1 serving all
+          (stays_same bl.taken h t) (λ b. record { pc = (at1 b).pc ∙ ap (address b) e; holds = (at1 b).holds }));
     })
 pairs_piece {e} {block} {types} bl {links} {code} (p ∷ pairs) {i} {v} {h} {t} {s} {aims} closed routines f around same n k can exit start acts exit_is le more later is room l inside serving all at goal =
     let fs = p.formats in

@@ -68,7 +68,7 @@ own_goto_does {e} {block} {types} bl links code around label line fits among onc
           (onward closed (jump_piece 0 o.at f1 symbol o.at (omega (arith, later)) o.place o.near free_far (back_of a c l) at1)
           (λ f2 at2.
           record {
-            to =
+            to = λ early.
                 o.lands s1 (acted line v) line n h t f2 serving1 (counted_all _ all) (stays_same bl.taken h t) (omega arith) at2;
           }))));
     }

@@ -67,7 +67,7 @@ own_home_does {e} bl links code around {o} d seen line homes few fits =
           onward closed (jump_piece (0 + size_of u') out.at f2 (ReturnPlace o.number) out.at (omega (arith, later, short)) out.place out.near free_far (back_of u' j l1) at2)
           (λ f3 at3.
           record {
-            to =
+            to = λ early.
                 out.leaves s1 v2 line n h f3 (bl.ground n).free
                 (record {
                   world = serving1.world ∙ sym left'.world;

@@ -123,7 +123,7 @@ tested_does {e} {block} {types} bl links code turns routines around condition li
           (goal s4 v4 line4 n4 h4 t4 f4 serving4 all4 (stays_then stays stays4) (λ b. record { pc = (at4 b).pc ∙ ap (address b) place'; holds = (at4 b).holds }))) (further more (omega arith) (omega arith) stays))
           (λ f3 at3.
           record {
-            to =
+            to = λ early.
                 subst (λ u. aims.done u f3 (acted line v) tt s1) (sym place)
                 (goal s1 (acted line v) line n h2 t2 f3 serving1 all1 stays (λ b. record { pc = (at3 b).pc ∙ ap (address b) place; holds = (at3 b).holds }));
           })))));

@@ -226,7 +226,7 @@ own_out_does {e} {block} {types} bl links code around {o} d seen label line outs
           (λ b. record { pc = (at3 b).pc ∙ ap (address b) there; holds = (at3 b).holds }))
           (λ f4 at4.
           record {
-            to =
+            to = λ early.
                 out.lands s1 v2 line n h f4
                 (record {
                   world = serving1.world ∙ sym left'.world;

@@ -131,7 +131,7 @@ turns_piece {e} {block} {types} bl {links} {code} routines around condition body
     (further more (omega arith) (omega (arith, grown)) (stays_then stays stays4)))) (further more (omega arith) (omega arith) stays))))
     (λ f3 at3.
     record {
-      to =
+      to = λ early.
           subst (λ u. aims.done u f3 (acted line v) tt s1) (sym place)
           (goal s1 (acted line v) line n h2 t2 f3 serving1 all1 stays (λ b. record { pc = (at3 b).pc ∙ ap (address b) place; holds = (at3 b).holds }));
     })))))

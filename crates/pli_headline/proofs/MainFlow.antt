@@ -16,6 +16,7 @@ use Rattle.run_steps.proofs.Reach.{comes_from}
 abbrev pub catching : List Instr → (k height : ℕ) → List Label → (Label → Meaning (Unit {0})) → Aims (Unit {0}) → Aims (Unit {0})
 catching code k height labels next aims =
     record {
+      limits = aims.limits;
       done = aims.done;
       jumped = λ i f v h label s. Comes code i f v aims (if (h == height) && is_among label labels then next label k s else Jump h label s);
       returned = aims.returned;
@@ -27,11 +28,11 @@ catching_closed k height labels next closed =
 
 pub comes_caught : {code : List Instr} {i : ℕ} {f : Family} {v : Services} {aims : Aims (Unit {0})} (k height : ℕ) (labels : List Label) (next : Label → Meaning (Unit {0})) (flow : Flow (Unit {0})) → Comes code i f v (catching code k height labels next aims) flow → Comes code i f v aims (caught k height labels flow next)
 comes_caught k height labels next (Normal x s) c = record { to = c.to }
-comes_caught k height labels next (Jump h label s) c = c.to
+comes_caught k height labels next (Jump h label s) c = record { to = λ early. (c.to early).to early }
 comes_caught k height labels next (Return x s) c = record { to = c.to }
 comes_caught k height labels next (F.Ended s) c = record { to = c.to }
 comes_caught k height labels next (Paused s) c = record { to = c.to }
-comes_caught k height labels next Stuck c = absurd c.to
+comes_caught k height labels next Stuck c = record { to = c.to }
 
 -- ---- the end of a block
 
@@ -39,6 +40,7 @@ comes_caught k height labels next Stuck c = absurd c.to
 abbrev pub inside : Aims (Option BasicValue) → (State → State) → Aims (Unit {0})
 inside aims close =
     record {
+      limits = aims.limits;
       done = λ i f v x s. aims.done i f v None (with_world s.world (close s));
       jumped = λ i f v height label s. ⊥;
       returned = λ i f v x s. aims.done i f v x (with_world s.world (close s));
@@ -54,8 +56,8 @@ inside_closed close closed =
 
 pub comes_left : {code : List Instr} {i : ℕ} {f : Family} {v : Services} {aims : Aims (Option BasicValue)} (close : State → State) (flow : Flow (Unit {0})) → Comes code i f v (inside aims close) flow → Comes code i f v aims (left true close flow)
 comes_left close (Normal x s) c = record { to = c.to }
-comes_left close (Jump height label s) c = absurd c.to
+comes_left close (Jump height label s) c = record { to = λ early. absurd (c.to early) }
 comes_left close (Return x s) c = record { to = c.to }
 comes_left close (F.Ended s) c = record { to = c.to }
 comes_left close (Paused s) c = record { to = c.to }
-comes_left close Stuck c = absurd c.to
+comes_left close Stuck c = record { to = c.to }

@@ -76,6 +76,7 @@ use Rattle.pli_headline.proofs.ArrayInitial.{numbers_of}
 use Rattle.pli_headline.proofs.TextArrayMeant.{HoldsTexts}
 use Rattle.pli_headline.proofs.TextArrayScopes.{IsTextArrayAt}
 use Rattle.pli_headline.proofs.HeldRegisters.{held_few}
+use Rattle.run_steps.specs.Giving.{Limits}
 
 -- ---- in the meaning
 
@@ -156,12 +157,16 @@ BodyDoes known program block line body first all alone small' links code k =
 -- ---- from the statements to the end of the run
 
 -- where the procedure goes on: to the end of the run
+-- nothing is asked of serials
+abbrev pub no_limits : Limits
+no_limits = record { acts = 0; serials = 0 }
+
 abbrev to_finish : List Instr → (k : ℕ) → Aims (Option BasicValue)
-to_finish code k = before code never k (λ (u : Option BasicValue). finish {R = Unit {0}} E.Finished)
+to_finish code k = before code (never no_limits) k (λ (u : Option BasicValue). finish {R = Unit {0}} E.Finished)
 
 to_finish_closed : (code : List Instr) (k : ℕ) → Closed code (to_finish code k)
 to_finish_closed code k =
-    before_closed k (λ (u : Option BasicValue). finish {R = Unit {0}} E.Finished) (never_closed code)
+    before_closed k (λ (u : Option BasicValue). finish {R = Unit {0}} E.Finished) (never_closed code no_limits)
 
 statements_piece : {links : Links} {code : List Instr} {i : ℕ} {h t : ℕ → ℕ} (known : Condition → ℕ → Y.Block → ℕ
     → Type 0) (program : Y.Program) (block line : ℕ) (body : Y.Stmts) (first : List ℕ) (all :
@@ -196,7 +201,7 @@ statements_piece {links = links} {code = code} {i = i} {h = h} {t = t} known pro
     (does' few).does {h = h} {t = t} closed line (begin_values (main_kind program block)) g k (front_of st en l) serving holds at
     (λ s' v' line' n' h' t' g' serving' all' stays' at'.
     let o = only_activation s'.activations v'.activations serving'.nested (entered_length s'.activations (0 ∷ []) all'.entered) in
-    leaving_piece (never_closed code) e block line (main_words program block body)
+    leaving_piece (never_closed code no_limits) e block line (main_words program block body)
     (main_held program block body) f g' (with_world s'.world (newest_ended s')) k o.0 most
     (omega (arith, small')) (omega arith) (back_of st en l) finish' serving'.world serving'.running
     serving'.allowed serving'.fits o.1
@@ -219,7 +224,7 @@ statements_piece {links = links} {code = code} {i = i} {h = h} {t = t} known pro
             near = omega (arith, o1, o2);
             later = omega (arith, later);
             leaves = λ s' v' g' a same running allowed fits only at'.
-                leaving_piece (never_closed code) e block line (main_words program block body)
+                leaving_piece (never_closed code no_limits) e block line (main_words program block body)
                 (main_held program block body) f g' (with_world s'.world (newest_ended s')) k a most
                 (omega (arith, small')) (omega arith) ended finish' same running allowed fits only at';
           };
@@ -391,7 +396,13 @@ procedure_piece {links} {code} known program block line body first input all alo
     (λ enough g3 at3. body_piece known program block line body first input all alone small' enough k ready low fits does' (omega (arith, later)) la lb finish' f.at refl g3 at3))))
 
 -- the whole run
-pub main_runs : {links : Links} {code : List Instr} (known : Condition → ℕ → Y.Block → ℕ → Type 0) (program : Y.Program) (block line : ℕ) (body : Y.Stmts) (first input : List ℕ) (all : AllPlain program.variables) (alone : IsAlone program block line body) (small' : main_words program block body ≤ most_code) (k : ℕ) → AllReady links code first program block → line < 2 ^ 31 → k + 1 < 2 ^ 64 → length first ≡ memory_size → Placed program block line body links code → BodyDoes known program block line body first all alone small' links code k → Comes code 0 (start_family first (first_services (table_of program) input)) (first_services (table_of program) input) never (M.run program (suc k) k (first_state input))
+pub main_runs : {links : Links} {code : List Instr} (known : Condition → ℕ → Y.Block → ℕ → Type 0) (program : Y.Program)
+    (block line : ℕ) (body : Y.Stmts) (first input : List ℕ) (all : AllPlain program.variables)
+    (alone : IsAlone program block line body) (small' : main_words program block body ≤ most_code)
+    (k : ℕ) → AllReady links code first program block → line < 2 ^ 31 → k + 1 < 2 ^ 64 → length first ≡ memory_size →
+    Placed program block line body links code → BodyDoes known program block line body first all alone small' links code
+    k → Comes code 0 (start_family first (first_services (table_of program) input)) (first_services
+    (table_of program) input) (never no_limits) (M.run program (suc k) k (first_state input))
 main_runs {links} {code} known program block line body first input all alone small' k ready low fits len placed does' =
     let v = first_services (table_of program) input in
     let behind = placed.behind in
@@ -400,8 +411,10 @@ main_runs {links} {code} known program block line body first input all alone sma
     let finish' = finish_linked block placed.start in
     let flow = flow_on k (K.variables_made (main_around program k line) 0 (variables_of_block program block) k (main_state (main_kind program block) input 0)) (λ u. main_body program k line body) in
     let next' : Option BasicValue → Meaning (Unit {0}) = λ u. finish E.Finished in
-    subst (Comes code 0 (start_family first v) v never) (sym (run_meant program block line body input k all alone))
-    (onward (never_closed code) (started first v block placed.entry len placed.start placed.entry_is behind (omega (arith, room, long))) (λ g at.
+    subst (Comes code 0 (start_family first v) v (never no_limits)) (sym
+    (run_meant program block line body input k all alone))
+    (onward (never_closed code no_limits) (started first v block placed.entry len placed.start placed.entry_is behind
+    (omega (arith, room, long))) (λ g at.
     comes_on k (left true newest_ended flow) next'
     (comes_left newest_ended flow
     (procedure_piece known program block line body first input all alone small' k placed.entry ready low fits len (omega (arith, behind)) does' placed.procedure finish' g at))))

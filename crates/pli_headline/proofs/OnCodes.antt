@@ -46,7 +46,7 @@ oncode_evaluates {code = code} {v = v} {s = s} around serving =
           (λ b. record { pc = (at b).pc; holds = record { body = (at b).holds.body; regs = (refl, (refl, (refl, tt))) } })
           (λ f1 at1.
           record {
-            to =
+            to = λ early.
                 goal (pos n) f1 h t (small_wide n small') (stays_same taken h t) (λ b. record { pc = (at1 b).pc; holds = record { body = (at1 b).holds.body; regs = ((at1 b).holds.regs.0 ∙ sym (small_word n small'), tt) } });
           });
     }

@@ -173,7 +173,7 @@ on_unit_does {e} {block} {types} bl links code around c head body line outermost
           let both : T (newest_changed true (BlockUnit u) c s1.activations) = (changed_serving true (BlockUnit u) w c (record { meant = inr may; served = inr may }) serving1, changed_all true (BlockUnit u) w c new all1) in
           let o = subst T (established_is (BlockUnit u) c s1.activations) both in
           record {
-            to =
+            to = λ early.
                 subst (λ q. aims.done q f5 v2 tt (with_world s1.world (with_activations (established c (BlockUnit u) s1.activations) s1))) (sym place)
                 (goal (with_world s1.world (with_activations (established c (BlockUnit u) s1.activations) s1)) v2 line n h t f5 o.0 o.1 (stays_same bl.taken h t)
                 (λ b. record { pc = (at5 b).pc ∙ ap (address b) place; holds = (at5 b).holds }));

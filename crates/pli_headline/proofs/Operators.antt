@@ -98,7 +98,8 @@ after_raise {code} {i} {f} {v} {aims} around z k s e c =
 pub after_fit : {code : List Instr} {i : ℕ} {f : Family} {v : Services} {aims : Aims ℤ} (around : Around) (z : ℤ) (k : ℕ) (s : State) → is_of_precision 31 z ≡ true → aims.done i f v z s → Comes code i f v aims (R.value_of around (checked 31 z) k s)
 unfolding R.value_of give
 after_fit {code} {i} {f} {v} {aims} around z k s e d =
-    subst (λ q. Comes code i f v aims (R.value_of around (cond q (Gives z) (Raises C.FixedOverflow 20 (wrapped 31 z))) k s)) (sym e) (record { to = d })
+    subst (λ q. Comes code i f v aims (R.value_of around (cond q (Gives z) (Raises C.FixedOverflow 20
+    (wrapped 31 z))) k s)) (sym e) (record { to = λ early. d })
 
 -- two registers are compared: where they are equal the value in a0 fits, else it overflows
 pub checked_by : {links : Links} {code : List Instr} {i : ℕ} {g : Ground} {v : Services} {h t : ℕ → ℕ} {s : State} {aims : Aims ℤ} (q : Bool) (closed : Closed code aims) (routines : Routines links code) (temps : Temporaries g) (f : Family) (around : Around) (taken : Taken) (z : ℤ) (x c d k : ℕ) → is_of_precision 31 z ≡ q → (q ≡ true → x ≡ word z) → (c == d) ≡ q → (is_register_left taken ≡ false → taken.words < g.words) → x < 2 ^ 32 → Linked links code i (skip_where Test.Equal u3 u4 (overflow_raised taken)) → Serving k s v around.line → ((b : Base) → At b i (Known g v h t (compared x c d) b) (f b)) → Gone code g h t v s (i + (1 + size_of (overflow_raised taken))) aims → Comes code i f v aims (R.value_of around (checked 31 z) k s)

@@ -60,7 +60,14 @@ unfolding R.value_of give ◌>>◌
 narrowed_by {s = s} true closed routines temps f around taken p z x k e less test room l serving at gone =
     let over = move a0 u1 ∷ overflow_raised taken in
     onward closed (skip_taken _ f Test.Equal u1 a0 over l at (λ b. let o = (at b).holds.regs in ap (λ u. u == (f b).machine.registers 10) o.0 ∙ ap (λ u. x == u) o.1.0 ∙ test))
-    (λ f' at'. record { to = gone f' e (λ b. record { pc = (at' b).pc; holds = record { body = (at' b).holds.body; regs = ((at' b).holds.regs.1.0, tt) } }) })
+    (λ f' at'. record {
+      to = λ early. gone f' e
+          (λ b. record {
+            pc = (at' b).pc;
+            holds = record
+                { body = (at' b).holds.body; regs = ((at' b).holds.regs.1.0, tt) };
+          });
+    })
 narrowed_by {i = i} {g = g} {v = v} {h = h} {t = t} {s = s} false closed routines temps f around taken p z x k e less test room l serving at gone =
     let front = move a0 u1 ∷ [] in
     let behind = overflow_raised taken in
@@ -102,7 +109,10 @@ fitted_by {i = i} {v = v} {s = s} {aims = aims} false closed routines temps f ar
     let few : is_of_precision p z ≡ true = subst (λ n. is_of_precision n z ≡ true) (sym e) wide in
     let here : i + 0 ≡ i = omega arith in
     subst (Comes _ i f v aims) (sym (ap (λ (t : Bool). checked_so t p z around k s) few))
-    (record { to = subst (λ n. aims.done n f v z s) here (gone f few (λ b. record { pc = (at b).pc ∙ ap (address b) (sym here); holds = (at b).holds })) })
+    (record {
+      to = λ early. subst (λ n. aims.done n f v z s) here (gone f few
+          (λ b. record { pc = (at b).pc ∙ ap (address b) (sym here); holds = (at b).holds }));
+    })
 
 -- a number where so many bits are due
 pub fitted_piece : {links : Links} {code : List Instr} {i : ℕ} {g : Ground} {v : Services} {h t : ℕ → ℕ} {s : State} {aims : Aims ℤ} (closed : Closed code aims) (routines : Routines links code) (temps : Temporaries g) (f : Family) (around : Around) (taken : Taken) (p : ℕ) (z : ℤ) (k : ℕ) → p ≤ 31 → IsWide z → (is_register_left taken ≡ false → taken.words < g.words) → Linked links code i (fitted_code taken p) → Serving k s v around.line → ((b : Base) → At b i (Known g v h t (valued (word z)) b) (f b)) → Fitted code g h t v s p z (i + size_of (fitted_code taken p)) aims → Comes code i f v aims (R.value_of around (checked p z) k s)

@@ -138,7 +138,7 @@ number_item_piece {e} {block} {types} bl {i = i} {s = s} {aims = aims} closed ro
     (number_piece x (before_closed k fit (before_closed k next' closed)) routines.raises (routines.constants n) (bl.temps n) e block types n f around bl.taken k is (omega (arith, room, most, w)) (scope_of bl n all) (front_of a put' l) serving at
     (λ z f1 h1 t1 wide stays at1.
     record {
-      to =
+      to = λ early.
           word_piece bl closed routines.raises f1 around fs (ComputationalNumber p z) p z n rest below k (number_as around (has_text fs) p z wide precise) (omega (arith, room, least)) are has suits edits (back_of a put' l) serving all at1
           (λ s2 v2 rest2 h2 t2 f2 serving2 all2 suits2 edits2 stays2 at2.
           subst (λ q. aims.done q f2 v2 rest2 s2) (sym place)
@@ -172,7 +172,7 @@ bit_item_piece {e} {block} {types} bl {i = i} {v = v} {s = s} {aims = aims} clos
     ((bit_does x {e = e} {around = around} (setting bl routines n all serving) is).does (before_closed k fit (before_closed k next' closed)) f bl.taken (omega (arith, room, most, w)) (front_of a put' l) at
     (λ met f1 h1 t1 one stays at1.
     record {
-      to =
+      to = λ early.
           word_piece bl closed routines.raises f1 around fs (ComputationalBit met) 0 (bit_number met) n rest below k (bit_as around (has_text fs) met) (omega (arith, room, least)) are has suits edits (back_of a put' l) serving all
           (λ b. record { pc = (at1 b).pc; holds = record { body = (at1 b).holds.body; regs = ((at1 b).holds.regs.0 ∙ bit_word met, tt) } })
           (λ s2 v2 rest2 h2 t2 f2 serving2 all2 suits2 edits2 stays2 at2.
@@ -211,7 +211,7 @@ text_item_piece {e} {block} {types} bl {links} {code} {i} {v} {h} {t} {s} {aims}
     (λ text f1 h1 t1 short stays at1.
     let u = ComputationalText text in
     record {
-      to =
+      to = λ early.
           comes_on k (P.next_item P.control_put whole rest k s) (show u)
           (next_piece (all_kept bl.frames bl.serials (e.level ∷ bl.depths) block types n) (before_closed k (show u) closed) (has_fixed fs) (has_text fs) f1 whole rest below k (items_data fs are has) (formats_suit fs) suits edits (front_of controls_carried_out shown l1) (record { serving = at_other_texts (TextEntry text ∷ v.entries) serving; holds = all; texts_are = refl }) at1
           (λ s2 v2 f2 d behind under2 found2 suits2 at2.

@@ -71,7 +71,8 @@ unfolding P.items_put ◌>>=◌ give
 items_piece bl [] {i = i} {v = v} {h = h} {t = t} {s = s} {aims = aims} closed routines f around fs n rest below k is room are has precise suits edits l serving all at goal =
     let e : i ≡ i + 0 = omega arith in
     record {
-      to = subst (λ u. aims.done u f v tt s) (sym e) (goal s v rest h t f serving all suits edits (stays_same bl.taken h t) (λ b. record { pc = (at b).pc ∙ ap (address b) e; holds = (at b).holds }));
+      to = λ early. subst (λ u. aims.done u f v tt s) (sym e) (goal s v rest h t f serving all suits edits
+          (stays_same bl.taken h t) (λ b. record { pc = (at b).pc ∙ ap (address b) e; holds = (at b).holds }));
     }
 items_piece {e} bl {links} {code} (item ∷ items) {i} {v} {h} {t} {s} {aims} closed routines f around fs n rest below k is room are has precise suits edits l serving all at goal =
     let a = C.item_put e bl.taken fs item in
@@ -104,7 +105,8 @@ unfolding P.pairs_put ◌>>◌ give
 pairs_piece bl [] {i = i} {v = v} {h = h} {t = t} {s = s} {aims = aims} closed routines f around n k is room l serving all at goal =
     let e : i ≡ i + 0 = omega arith in
     record {
-      to = subst (λ u. aims.done u f v tt s) (sym e) (goal s v around.line n h t f serving all (stays_same bl.taken h t) (λ b. record { pc = (at b).pc ∙ ap (address b) e; holds = (at b).holds }));
+      to = λ early. subst (λ u. aims.done u f v tt s) (sym e) (goal s v around.line n h t f serving all
+          (stays_same bl.taken h t) (λ b. record { pc = (at b).pc ∙ ap (address b) e; holds = (at b).holds }));
     }
 pairs_piece {e} bl {links} {code} (p ∷ pairs) {i} {v} {h} {t} {s} {aims} closed routines f around n k is room l serving all at goal =
     let fs = p.formats in

@@ -114,7 +114,10 @@ remainder_piece {i = i} {g = g} {v = v} {h = h} {t = t} {s = s} {aims = aims} k 
       body = record { services = o.body.services; registers = o.body.registers; bytes = o.body.bytes; memory = o.body.memory };
       regs = (sum_zero _ z o.regs.0 (word_small (pos z) wide), tt);
     }))
-    (λ f3 at3. record { to = subst (λ n. aims.done n f3 v (pos z) s) (sym seven) (gone (pos z) f3 wide (λ b. record { pc = (at3 b).pc ∙ ap (address b) seven; holds = (at3 b).holds })) })))
+    (λ f3 at3. record {
+      to = λ early. subst (λ n. aims.done n f3 v (pos z) s) (sym seven) (gone (pos z) f3 wide
+          (λ b. record { pc = (at3 b).pc ∙ ap (address b) seven; holds = (at3 b).holds }));
+    })))
 
 pub modulo_operates : {links : Links} {code : List Instr} {g : Ground} {v : Services} {s : State} {k : ℕ} (routines : Routines links code) (around : Around) → Serving k s v around.line → (x y : ℤ) → IsWide x → IsWide y → Operates number_kind links code g v s k 1 (paired (word x) (word y)) (λ taken. modulo_code) (R.value_of around (modulo x y))
 unfolding R.value_of give

@@ -146,7 +146,7 @@ own_return_does {e} bl links code around number line true level reaches fits own
           record { pc = (at1 b).pc; holds = record { services = p.body.services; regs = (frame_is p.body ∙ ap (λ u. b.at + u) (reaches n), (zero_is p.body, tt)); memory = bl.bottom.kept n t b _ p.body.memory } }))
           (λ f2 at2.
           record {
-            to =
+            to = λ early.
                 o.leaves (with_world (counted s.world) s) (acted line v) f2 only.0 serving1.world serving1.running serving1.allowed serving1.fits only.1 at2;
           })));
     }
@@ -175,7 +175,7 @@ own_return_does {e} bl links code around number line false level reaches fits ow
           (jump_with 5 o.at f2 (ReturnPlace number) o.at (λ b w. Unwound bl.base holds v2 b w) (omega (arith, later)) o.place o.near (unwound_lost bl.base holds v2) (back_of u' j l1) at2)
           (λ f3 at3.
           record {
-            to =
+            to = λ early.
                 o.leaves (with_world (counted s.world) s) v2 f3 lowest.activation serving1.world serving1.running serving1.allowed serving1.fits refl at3;
           }))));
     }
@@ -205,7 +205,7 @@ end_does {e} bl links code around line deep fits owned once =
           onward closed (jump_piece 0 o.at f1 (ReturnPlace e.block) o.at (omega (arith, later)) o.place o.near free_far (back_of a c l) at1)
           (λ f2 at2.
           record {
-            to =
+            to = λ early.
                 o.leaves (with_world (counted s.world) s) (acted line v) line n h t f2 (bl.ground n).free serving1 (counted_all _ all)
                 (λ b. let p = (at2 b).holds in record { pc = (at2 b).pc; holds = record { body = record { services = p.body.services; registers = p.body.registers; bytes = p.body.bytes; memory = p.body.memory }; regs = tt } });
           })));

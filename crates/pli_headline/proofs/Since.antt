@@ -9,6 +9,7 @@ use Rattle.run_steps.specs.Reach.{Family, Aims, Comes, Closed}
 abbrev pub since : {R : Type 0} → ℕ → Aims R → Aims R
 since acts aims =
     record {
+      limits = aims.limits;
       done = λ i f v r s. acts ≤ v.world.acts → aims.done i f v r s;
       jumped = aims.jumped;
       returned = aims.returned;
@@ -23,9 +24,9 @@ since_closed acts closed =
     }
 
 pub comes_since : {R : Type 0} {code : List Instr} {i : ℕ} {f : Family} {v : Services} {aims : Aims R} (flow : Flow R) → Comes code i f v (since v.world.acts aims) flow → Comes code i f v aims flow
-comes_since (Normal x s) c = record { to = c.to (omega arith) }
+comes_since (Normal x s) c = record { to = λ early. c.to early (omega arith) }
 comes_since (Jump h label s) c = record { to = c.to }
 comes_since (Return x s) c = record { to = c.to }
 comes_since (F.Ended s) c = record { to = c.to }
 comes_since (Paused s) c = record { to = c.to }
-comes_since Stuck c = absurd c.to
+comes_since Stuck c = record { to = c.to }

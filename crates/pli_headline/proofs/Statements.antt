@@ -620,7 +620,8 @@ unfolding M.statements give choose ◌>>◌
 list_does {e} bl links code around (Y.EndOfList labels) each =
     record {
       does = λ {i} {s} {v} {h} {t} {aims} closed line n f k l serving all at goal more.
-          marked_piece closed e.block labels f l at (λ f' at'. record { to = goal s v line n h t f' serving all (stays_same bl.taken h t) at' });
+          marked_piece closed e.block labels f l at
+          (λ f' at'. record { to = λ early. goal s v line n h t f' serving all (stays_same bl.taken h t) at' });
     }
 list_does {e} bl links code around (Y.StmtThen labels first rest) each =
     record {

@@ -424,7 +424,7 @@ behind_piece [] [] Y.NoNumber {i = i} {g = g} {v = v} {h = h} {t = t} {ys = ys} 
     let e : i ≡ i + 0 = omega arith in
     let all : place ≡ place * 1 + 0 = omega arith in
     record {
-      to =
+      to = λ early.
           subst (λ u. aims.done u f v tt s) (sym e)
           (goal refl f (λ b. record {
             pc = (at b).pc ∙ ap (address b) e;

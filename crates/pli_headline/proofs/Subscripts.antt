@@ -93,7 +93,10 @@ none_evaluate {v = v} {s = s} =
     record {
       does = λ {i} {h} {t} {aims} closed f taken room l at goal.
           let e : i ≡ i + 0 = omega arith in
-          record { to = subst (λ u. aims.done u f v [] s) (sym e) (goal [] f h t tt refl (stays_same taken h t) tt (λ b. record { pc = (at b).pc ∙ ap (address b) e; holds = (at b).holds })) };
+          record {
+            to = λ early. subst (λ u. aims.done u f v [] s) (sym e) (goal [] f h t tt refl
+                (stays_same taken h t) tt (λ b. record { pc = (at b).pc ∙ ap (address b) e; holds = (at b).holds }));
+          };
       simple = λ q. record { values = []; wide = tt; many = refl; meant = refl; gives = λ taken h t. tt };
     }
 
@@ -137,7 +140,7 @@ next_does true {code = code} {v = v} {s = s} temps m n first rest ones others e 
     let same : i ≡ i + 0 = omega arith in
     subst (Comes code i f v aims) (sym (simple_meant first rest one more))
     (record {
-      to =
+      to = λ early.
           subst (λ u. aims.done u f v (one.value ∷ more.values) s) (sym same)
           (goal one.value more.values f h t one.wide more.wide more.many (stays_same taken h t) (one.gives h t)
           (more.gives (with_number taken) h t)
@@ -173,7 +176,7 @@ next_does false {g = g} {v = v} {s = s} {k = k} {e = e'} {around = around} temps
     (λ zs f3 h3 t3 wide same stays3 gives at3.
     let waits = waiting_kept taken stays3 ∙ waiting_saved taken h1 t1 (word z) in
     record {
-      to =
+      to = λ early.
           subst (λ u. aims.done u f3 v (z ∷ zs) s) (sym place)
           (goal z zs f3 h3 t3 wz wide same
           (stays_then stays1 (stays_then (stays_saved taken h1 t1 (word z)) (stays_less stays3)))

@@ -272,7 +272,7 @@ on_system_does {e} {block} {types} bl links code around c line fits =
           let both : T (newest_changed true SystemUnit c s1.activations) = (changed_serving true SystemUnit S.SystemUnit c (system_new c) serving1, changed_all true SystemUnit S.SystemUnit c (system_known (bl.frames.known c) s1.activations v1.activations) all1) in
           let o = subst T (established_is SystemUnit c s1.activations) both in
           record {
-            to =
+            to = λ early.
                 subst (λ u. aims.done u f3 v2 tt (with_world s1.world (with_activations (established c SystemUnit s1.activations) s1))) (sym place)
                 (goal (with_world s1.world (with_activations (established c SystemUnit s1.activations) s1)) v2 line n h t f3 o.0 o.1 (stays_same bl.taken h t)
                 (λ b. record { pc = (at3 b).pc ∙ ap (address b) place; holds = record { body = (at3 b).holds.body; regs = tt } }));
@@ -314,7 +314,7 @@ revert_does {e} {block} {types} bl links code around c line fits =
           let both : T (newest_changed false SystemUnit c s1.activations) = (changed_serving false SystemUnit S.SystemUnit c (system_new c) serving1, changed_all false SystemUnit S.SystemUnit c (system_known (bl.frames.known c) s1.activations v1.activations) all1) in
           let o = subst T (reverted_is c s1.activations) both in
           record {
-            to =
+            to = λ early.
                 subst (λ u. aims.done u f3 v2 tt (with_world s1.world (with_activations (reverted c s1.activations) s1))) (sym place)
                 (goal (with_world s1.world (with_activations (reverted c s1.activations) s1)) v2 line n h t f3 o.0 o.1 (stays_same bl.taken h t)
                 (λ b. record { pc = (at3 b).pc ∙ ap (address b) place; holds = record { body = (at3 b).holds.body; regs = tt } }));

@@ -116,7 +116,7 @@ text_assigned_does {e} {block} {types} bl links code routines around j varying m
           (comes_on k (V.text here x k s1) as_value
           ((text_does x {e = e} {around = here} (setting bl routines n all1 serving1) is).does (before_closed k as_value (before_closed k store closed)) f1 bl.taken (omega (arith, room, w)) (front_of valued' last l1) at1
           (λ text f2 h2 t2 short stays2 at2. record {
-            to =
+            to = λ early.
                 let kept = text_kept_as varying most text in
                 let s2 = text_state s1 (text_leaf varying most) (bl.serials.of j) mine.values text in
                 assigned_piece bl closed f2 here j varying most text n k below (back_of valued' last l1) all1 at2

@@ -101,7 +101,7 @@ tested_call (Some r) {code = code} {i = i} {v = v} {s = s} {aims = aims} closed 
     onward closed (skip_taken (i + 2) f1 Test.Equal a1 zero_register (JumpTo RaiseError ∷ []) l1 at1 (λ b. is_none _ _ (at1 b).holds.regs.1.0 (zero_is (at1 b).holds.body)))
     (λ f2 at2.
     record {
-      to =
+      to = λ early.
           subst (λ u. aims.done u f2 (after r) r s) (sym e)
           (goal r f2 refl (λ b. record { pc = (at2 b).pc ∙ ap (address b) e; holds = record { body = (at2 b).holds.body; regs = ((at2 b).holds.regs.0, tt) } }));
     }))

@@ -147,7 +147,7 @@ copy_texts {e} {block} {types} bl links code routines around j i varying most ot
           (λ t' b' m long held. texts_stand {ground = bl.ground} on x n 0 count (omega arith) t' b' m long held)
           l1 at1
           (λ f2 t2 stays2 at2. record {
-            to =
+            to = λ early.
                 subst (λ u. aims.done u f2 v1 tt s2) (sym there)
                 (goal s2 v1 line n' _ _ f2
                 (record { world = serving1.world; running = serving1.running; line_is = serving1.line_is; input = serving1.input; allowed = serving1.allowed; fits = serving1.fits; nested = serving1.nested; places = serving1.places; waiting = serving1.waiting })

@@ -156,7 +156,7 @@ text_element_does {e} {block} {types} bl links code routines around j varying mo
           (comes_on k (V.text here x k s1) as_value
           ((text_does x {e = e} {around = here} (setting_at bl routines here n all1 serving1) is).does (before_closed k as_value (before_closed k store closed)) f1 bl.taken (omega (arith, room, w)) (front_of valued' last l1) at1
           (λ text f2 h2 t2 short stays2 at2. record {
-            to =
+            to = λ early.
                 element_assigned_piece bl routines closed f2 here j varying most b bs first rest text n k below many are some (back_of valued' last l1) serving1 all1 at2
                 (λ s3 n3 h3 t3 f3 serving3 all3 stays3 at3.
                 subst (λ u. aims.done u f3 (acted line v) tt s3) (sym place)

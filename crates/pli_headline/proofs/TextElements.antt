@@ -342,7 +342,7 @@ text_element_piece {code = code} {i = i} {g = g} {v = v} {s = s} {aims = aims} {
     onward closed (text_address_piece (level_of block j == e.level) (level_of block j) varying most (i + size_of p1 + size_of p2) f2 scope.base (element_place bs is) scope.reach (omega (arith, within)) (stride_few varying most scope.short) (back_of p2 p3 l2) at2)
     (λ f3 at3.
     record {
-      to =
+      to = λ early.
           subst (λ u. aims.done u f3 v (designated is) s) (sym there)
           (goal is f3 h1 t1 inside stays (λ b. record { pc = (at3 b).pc ∙ ap (address b) there; holds = (at3 b).holds }));
     })))))))
@@ -423,7 +423,7 @@ text_element_evaluates {links = links} {code = code} {g = g} {v = v} {s = s} {k 
           (λ b m size o. (size, o)) (back_of c1 c2 l2) at2
           (λ f3 at3.
           record {
-            to =
+            to = λ early.
                 subst (λ y. aims.done (i + size_of a + size_of c1 + size_of c2) f3 v' (text_in y) s) (sym seen')
                 (subst (λ u. aims.done u f3 v' text s) (sym there)
                 (goal text f3 h1 t1 (scope.holds.short p below) stays (λ b. record { pc = (at3 b).pc ∙ ap (address b) there; holds = (at3 b).holds })));
@@ -493,7 +493,7 @@ text_element_stored_piece {links = links} {code = code} {i = i} {g = g} g' {v = 
     (λ f3 at3.
     subst (Comes code (i + size_of a + size_of c1 + size_of c2) f3 v aims) (sym (text_element_stored varying most bs scope.serial scope.holds.values is text k s))
     (record {
-      to =
+      to = λ early.
           subst (λ u. aims.done u f3 v tt (text_element_state s varying most bs scope.serial scope.holds.values is text)) (sym there)
           (goal is f3 h1 t1 inside stays (λ b. record { pc = (at3 b).pc ∙ ap (address b) there; holds = (at3 b).holds }));
     })))))

@@ -126,7 +126,7 @@ length_finishes {code = code} {g = g} {v = v} {s = s} text short =
           (λ b m x3 x4. refl) (back_of front (service 27) l) at1
           (λ f2 at2.
           record {
-            to =
+            to = λ early.
                 subst (λ u. aims.done u f2 v (pos n) s) (sym place)
                 (goal (pos n) f2 (small_wide n few) (λ b. record { pc = (at2 b).pc ∙ ap (address b) place; holds = record { body = (at2 b).holds.body; regs = ((at2 b).holds.regs.0 ∙ sym (word_is n few), tt) } }));
           }));
@@ -154,7 +154,7 @@ found_finishes {code = code} {g = g} {v = v} {s = s} mode n left right low few a
           (λ b m x3 x4. answers m (y b)) (back_of front (service 25) l) at1
           (λ f2 at2.
           record {
-            to =
+            to = λ early.
                 subst (λ u. aims.done u f2 v (pos n) s) (sym place)
                 (goal (pos n) f2 (small_wide n few) (λ b. record { pc = (at2 b).pc ∙ ap (address b) place; holds = record { body = (at2 b).holds.body; regs = ((at2 b).holds.regs.0 ∙ sym (word_is n few), tt) } }));
           }));

@@ -81,7 +81,7 @@ text_evaluates {links} {code} {g} {v} {s} {k} varying e around block index most 
           (λ b m bytes o. (bytes, o))
           (subst (Linked links code i) same l) at
           (λ f1 at1. record {
-            to =
+            to = λ early.
                 subst (λ u. aims.done u f1 (pushed (TextEntry text) v) text s) (sym there)
                 (goal text f1 h t holds.short (stays_same taken h t) (λ b. record { pc = (at1 b).pc ∙ ap (address b) there; holds = (at1 b).holds }));
           }));
@@ -118,7 +118,7 @@ text_stored_piece {links} {code} {i} {g} g' {v} {h} {t} {s} {aims} closed f vary
     writes
     (subst (Linked links code i) eq l) at
     (λ f1 at1. record {
-      to =
+      to = λ early.
           subst (λ u. aims.done u f1 v tt (text_state s (text_leaf varying most) holds.serial holds.values text)) (sym there)
           (goal f1 (λ b. record { pc = (at1 b).pc ∙ ap (address b) there; holds = (at1 b).holds }));
     }))

@@ -96,7 +96,7 @@ constant_evaluates bytes constants short =
     record {
       does = λ {i} {h} {t} {aims} closed f taken room l at goal.
           constant_text closed f bytes short (λ b m o. constants.stand bytes (l.named (ConstantBytes bytes) (inl refl)) t b m o) l at
-          (λ f1 at1. record { to = goal bytes f1 h t short (stays_same taken h t) at1 });
+          (λ f1 at1. record { to = λ early. goal bytes f1 h t short (stays_same taken h t) at1 });
     }
 
 pub number_evaluates_text : {links : Links} {code : List Instr} {g : Ground} {v : Services} {s : State} {k : ℕ} {n : ℕ} {part : Taken → Code} {meaning : Meaning ℤ} (precision : ℕ) → IsPrecision precision → Evaluates number_kind links code g v s k n part meaning → EvaluatesText links code g v s k n (λ taken. part taken ++ C.as_text precision) (meaning >>= (λ z. give (number_text precision z)))
@@ -116,7 +116,7 @@ number_evaluates_text {v = v} {s = s} {k = k} {part = part} {meaning = meaning} 
           word_as_text closed f1 (word z) precision text is.1 (number_text_is precision z is.0 wide) (back_of a d l) at1
           (λ f2 at2.
           record {
-            to =
+            to = λ early.
                 subst (λ u. aims.done u f2 (pushed (TextEntry text) v) text s) (sym place)
                 (goal text f2 h1 t1 (number_short precision z) stays (λ b. record { pc = (at2 b).pc ∙ ap (address b) place; holds = (at2 b).holds }));
           })));
@@ -140,7 +140,7 @@ bit_evaluates_text {v = v} {s = s} {k = k} {part = part} {meaning = meaning} x =
           (λ b. record { pc = (at1 b).pc; holds = record { body = (at1 b).holds.body; regs = ((at1 b).holds.regs.0 ∙ bit_word met, tt) } })
           (λ f2 at2.
           record {
-            to =
+            to = λ early.
                 subst (λ u. aims.done u f2 (pushed (TextEntry text) v) text s) (sym place)
                 (goal text f2 h1 t1 (bit_short met) stays (λ b. record { pc = (at2 b).pc ∙ ap (address b) place; holds = (at2 b).holds }));
           })));

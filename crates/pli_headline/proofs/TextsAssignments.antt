@@ -172,7 +172,7 @@ text_does_all {e} {block} {types} bl links code routines around j varying most b
           let change : List ℕ → List ℕ = texts_from varying most (λ p. text) (base + data_place e block j) 0 count in
           let shape : shape_at v1.signatures num ≡ Some (array_shape type (b ∷ bs)) = ap (λ ts. shape_at ts num) (all1.stored.table ∙ ap (λ p. map template_of (table_of p)) bl.named) ∙ numbered_shape (table_of e.program) kind numbered in
           record {
-            to =
+            to = λ early.
                 subst (Comes code (i + size_of front + size_of a) f2 _ aims) (sym (texts_meant here (BasicText text) k mine))
                 (text_filling_piece (bl.ground n') closed (bl.temps n) f2 taken text (level == e.level) level base place num change room' few (bl.reaches n j below)
                 (own_place base na.aligned high na.room) (omega (arith, near)) (own_place g.frame g.whole (omega (arith, above)) (omega (arith, framed, tall, free)))
@@ -187,7 +187,7 @@ text_does_all {e} {block} {types} bl links code routines around j varying most b
                 (λ b' m long held. texts_stand {ground = bl.ground} on (λ p. text) n 0 count (omega arith) _ b' m long held)
                 (back_of a fill l1) at2
                 (λ f3 stays3 at3. record {
-                  to =
+                  to = λ early.
                       subst (λ u. aims.done u f3 v1 tt s2) (sym there)
                       (goal s2 v1 line n' _ _ f3
                       (record { world = serving1.world; running = serving1.running; line_is = serving1.line_is; input = serving1.input; allowed = serving1.allowed; fits = serving1.fits; nested = serving1.nested; places = serving1.places; waiting = serving1.waiting })

@@ -122,7 +122,10 @@ unfolding M.within_limit M.counter_number V.number ◌>>=◌ give
 within_piece {i = i} {v = v} {h = h} {t = t} {s = s} {aims = aims} bl routines around r p None None fixed step behind
     closed n f k mine waits ws at_step low room inside l serving all at met =
     let same : i ≡ i + 0 = omega arith in
-    record { to = subst (λ u. aims.done u f v true s) (sym same) (met.0 f h t (stays_same (in_turns bl.taken) h t) (λ b. record { pc = (at b).pc ∙ ap (address b) same; holds = (at b).holds })) }
+    record {
+      to = λ early. subst (λ u. aims.done u f v true s) (sym same) (met.0 f h t (stays_same
+          (in_turns bl.taken) h t) (λ b. record { pc = (at b).pc ∙ ap (address b) same; holds = (at b).holds }));
+    }
 within_piece {code = code} {i = i} {v = v} {h = h} {t = t} {s = s} {aims = aims} {e = e} {block = block} {types =
     types} bl routines around r p (Some x) (Some limit) fixed step behind closed n f k mine waits ws at_step low room
     inside l serving all at met =
@@ -140,8 +143,14 @@ within_piece {code = code} {i = i} {v = v} {h = h} {t = t} {s = s} {aims = aims}
     (omega (arith, low, w)) (stays.words bl.taken.words (omega arith) ∙ waits.1)
     (step_stays fixed step t t1 (bl.taken.words + 1) (stays.words (bl.taken.words + 1) (omega arith)) at_step)
     (omega (arith, inside, place')) (back_of a c l) at1
-    (λ f2 at2. record { to = subst (λ u. aims.done u f2 v true s) (sym place) (met.0 f2 h1 t1 stays (λ b. record { pc = (at2 b).pc ∙ ap (address b) place; holds = (at2 b).holds })) })
-    (λ f2 at2. record { to = subst (λ u. aims.done u f2 v false s) (sym place') (met.1 f2 h1 t1 stays (λ b. record { pc = (at2 b).pc ∙ ap (address b) place'; holds = (at2 b).holds })) }))))
+    (λ f2 at2. record {
+      to = λ early. subst (λ u. aims.done u f2 v true s) (sym place) (met.0 f2 h1 t1 stays
+          (λ b. record { pc = (at2 b).pc ∙ ap (address b) place; holds = (at2 b).holds }));
+    })
+    (λ f2 at2. record {
+      to = λ early. subst (λ u. aims.done u f2 v false s) (sym place') (met.1 f2 h1 t1 stays
+          (λ b. record { pc = (at2 b).pc ∙ ap (address b) place'; holds = (at2 b).holds }));
+    }))))
 within_piece bl routines around r p None (Some limit) fixed step behind closed n f k mine waits ws at_step low room
     inside
     l serving all at met = absurd waits
@@ -179,7 +188,10 @@ pub condition_piece : {links : Links} {code : List Instr} {i : ℕ} {v : Service
 unfolding M.condition_met give
 condition_piece {i = i} {v = v} {h = h} {t = t} {s = s} {aims = aims} bl routines around None behind closed n f k is room inside l serving all at met =
     let same : i ≡ i + 0 = omega arith in
-    record { to = subst (λ u. aims.done u f v true s) (sym same) (met.0 f h t (stays_same (in_turns bl.taken) h t) (λ b. record { pc = (at b).pc ∙ ap (address b) same; holds = (at b).holds })) }
+    record {
+      to = λ early. subst (λ u. aims.done u f v true s) (sym same) (met.0 f h t (stays_same
+          (in_turns bl.taken) h t) (λ b. record { pc = (at b).pc ∙ ap (address b) same; holds = (at b).holds }));
+    }
 condition_piece {i = i} {v = v} {s = s} {aims = aims} {e = e} bl routines around (Some x) behind closed n f k is room inside l serving all at met =
     let a = bit_code e (in_turns bl.taken) x in
     let c = skip_where Test.NotEqual a0 zero_register (JumpAhead behind ∷ []) in

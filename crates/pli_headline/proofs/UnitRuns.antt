@@ -256,7 +256,8 @@ unit_piece {e} {block} {types} bl {links} {code} main mains has around more m ca
       place = end_placed head head.kind lm owned once;
       near = omega (arith, room, small2);
       later = omega (arith, behind);
-      leaves = λ s5 v5 line5 n5 h5 t5 f5 free5 serving5 all5 at5. record { to = leave s5 v5 line5 n5 h5 t5 f5 free5 serving5 all5 at5 };
+      leaves = λ s5 v5 line5 n5 h5 t5 f5 free5 serving5 all5 at5. record
+          { to = λ early. leave s5 v5 line5 n5 h5 t5 f5 free5 serving5 all5 at5 };
     })
     (omega (arith, enough)) (omega (arith, behind))
     (λ number' owned once. absurd (unit_apart head head.kind level number' owned))
@@ -275,7 +276,8 @@ unit_piece {e} {block} {types} bl {links} {code} main mains has around more m ca
     })
     (raised_all head entry s (storage v) x small' some (omega arith) (omega (arith, lengths)) direct ordinary refl (inl callee.outer) serving.nested all)
     at3
-    (λ s5 v5 line5 n5 h5 t5 f5 free5 serving5 all5 at5. record { to = leave s5 v5 line5 n5 h5 t5 f5 free5 serving5 all5 at5 }))))))
+    (λ s5 v5 line5 n5 h5 t5 f5 free5 serving5 all5 at5. record
+    { to = λ early. leave s5 v5 line5 n5 h5 t5 f5 free5 serving5 all5 at5 }))))))
 
 -- where too many blocks are entered the run ends
 limited_piece : {e : Environment} {block : Names} {types : Types} (bl : Block e block types) {links : Links} {code : List Instr} (main : ℕ) (mains : List Label) (has : HasMain main mains e.level e.block bl.labels bl.outer) (around : Around) (more m : ℕ) {frame : ℕ} {u : Y.Block} {at' : ℕ} (can : Raisable bl main mains has links code more frame u at') → around.enter ≡ M.entered e.program (suc m) → {s : State} {v : Services} {h t : ℕ → ℕ} {aims : Aims (Unit {0})} (closed : Closed code aims) (n : Values) (f : Family) (k line resume oncode : ℕ) (a : Activation) → 19 ≤ length code → resume ≤ length code → nat_lt (length s.activations) most_activations ≡ false → Serving k s v line → ((b : Base) → At b can.index (Known (bl.ground n) (record v { waiting = Some (record { code = oncode; resume = 4 * resume; line = v.line }) }) h t (entry_with bl.base (4 * resume) (λ b'. address b' resume)) b) (f b)) → Comes code 19 f (record v { waiting = Some (record { code = oncode; resume = 4 * resume; line = v.line }) }) (owing code (length code) aims) (unit_part around oncode a can.head can.body k s)

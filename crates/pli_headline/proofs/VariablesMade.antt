@@ -220,7 +220,7 @@ variables_piece {aims = aims} closed around program block line words small' firs
     let here : i + 0 ≡ i = omega arith in
     let T : ℕ → ℕ → Type 0 = λ u m. (fw : room_of (sizes_of kind) u ≤ 2 ^ 20) → ((b : Base) → At b m (Known (ground_of (main_frame words (sizes_of kind) u small' fw) first (begin_contents kind)) (main_services (table_of program) kind input (main_frame words (sizes_of kind) u small' fw).at line u) h t nothing b) (g b)) → aims.done m g (main_services (table_of program) kind input (main_frame words (sizes_of kind) u small' fw).at line u) tt (main_state kind input u) in
     let there : T n (i + 0) = λ fw a. goal fw g a in
-    record { to = subst (λ m. T j m) here (subst (λ u. T u (i + 0)) same there) few at }
+    record { to = λ early. subst (λ m. T j m) here (subst (λ u. T u (i + 0)) same there) few at }
 variables_piece {links = links} {code = code} {aims = aims} closed around program block line words small' first input kind k n h t fits places signs (d ∷ ds) j i are count few g l at goal =
     let table = table_of program in
     let place = 144 + room_of (sizes_of kind) j in

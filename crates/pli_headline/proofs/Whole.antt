@@ -36,7 +36,8 @@ use Rattle.pli_headline.proofs.InnerUnits.{Done}
 use Rattle.pli_headline.proofs.InnerCalls.{inner_calls}
 use Rattle.pli_headline.proofs.MainBody.{main_body_does}
 use Rattle.pli_headline.proofs.InitialNamed.{all_ready}
-use Rattle.pli_headline.proofs.MainRuns.{main_around, main_count, main_room, main_types, main_data, main_sized, BodyDoes, main_runs, main_fit}
+use Rattle.pli_headline.proofs.MainRuns.{no_limits, main_around, main_count, main_room, main_types}
+use Rattle.pli_headline.proofs.MainRuns.{main_data, main_sized, BodyDoes, main_runs, main_fit}
 use Rattle.pli_headline.proofs.Statements.{IsKnown}
 use Rattle.pli_headline.proofs.PlainNumbers.{main_numbered}
 use Rattle.pli_headline.proofs.PlainInside.{declare_plain}
@@ -152,14 +153,18 @@ body_done program is fits k few =
 comes : (laws : Laws) (program : Y.Program) (is : IsProvedSoFar program) → FitsMemory (picture_of parts program) → (input : List ℕ) (k : ℕ) → k + 1 < 2 ^ 64 → Comes_at (picture_of parts program) (table_of program) program input k
 unfolding meaning
 comes laws program is fits input k room =
-    from_flow laws (picture_of parts program) (table_of program) program input k (run program (suc k) k (first_state input)) refl
+    from_flow no_limits laws (picture_of parts program) (table_of program) program input k (run program (suc k) k
+    (first_state input)) refl
     (main_runs (units_of program is) program (block_in is) (line_in is) is.body (memory_for program) input is.plain (alone_of program is) (few_words program is fits) k (all_ready program (block_in is) (line_in is) is.body is.plain is.few (alone_of program is) fits (some_code program is fits)) is.block.line room (first_length (picture_of parts program) fits) (placed_for program is fits) (body_done program is fits k))
+    (λ b n x e less. absurd (omega (arith, less)))
 
 works : (laws : Laws) (program : Y.Program) (is : IsProvedSoFar program) → FitsMemory (picture_of parts program) → Works (picture_of parts program) (table_of program) program
 works laws program is fits =
     record {
-      some = omega arith;
-      comes = comes laws program is fits;
+      small = fits.code_fits;
+      early = 2 ^ 64;
+      enough = omega arith;
+      comes = λ input k few early. comes laws program is fits input k few;
       first = λ input b. first_step_of (memory_for program) (first_services (table_of program) input) (block_in is) (placed_for program is fits).start b;
     }
 

@@ -2,7 +2,6 @@ pub mod InnerWords
 pub mod EndUnits
 pub mod ProvedSoFar
 pub mod Headline
-pub mod Within
 pub mod FirstForms
 pub mod FirstPathTrees
 pub mod FirstPath

@@ -45,7 +45,7 @@ pub enum InfixOp {
 
 /// An expression. Operators of one level associate to the left.
 #[cycle(expr)]
-#[derive(Debug, Drop)]
+#[derive(Debug)]
 pub enum Expr {
     Number {
         value: u64,
@@ -78,7 +78,7 @@ pub enum Expr {
 
 /// A reference: `P->Q->X.Y(1)` is `Y` of `X` located by `Q`, which is located by `P`.
 #[cycle(expr)]
-#[derive(Debug, Drop)]
+#[derive(Debug)]
 pub enum Reference {
     Plain(Qualified),
     Located {
@@ -89,7 +89,7 @@ pub enum Reference {
 
 /// Names with points between them, each with its arguments.
 #[cycle(expr)]
-#[derive(Debug, Drop)]
+#[derive(Debug)]
 pub enum Qualified {
     Last {
         name: Name,
@@ -112,8 +112,88 @@ pub enum Arguments {
 
 /// A list of expressions.
 #[cycle(expr)]
-#[derive(Debug, Drop)]
+#[derive(Debug)]
 pub enum Exprs {
     End,
     More { first: Box<Expr>, rest: Box<Exprs> },
+}
+
+impl Drop for Expr {
+    /// Drops the expression down to its first operand, in a loop: operators stand thousands in a row.
+    #[cycle(dropping_expressions)]
+    fn drop(mut self) {
+        loop {
+            match self {
+                Expr::Number { value: _, place: _ } | Expr::Bit { value: _, place: _ } => return,
+                Expr::Text {
+                    value: _value,
+                    place: _,
+                } => return,
+                Expr::Parenthesized { inner, place: _ } => self = Box::into_inner(inner),
+                Expr::Prefix {
+                    op: _,
+                    operand,
+                    place: _,
+                } => self = Box::into_inner(operand),
+                Expr::Infix {
+                    op: _,
+                    left,
+                    right: _right,
+                } => self = Box::into_inner(left),
+                Expr::Refers(_reference) => return,
+            }
+        }
+    }
+}
+
+impl Drop for Reference {
+    /// Drops the reference down to its first locator, in a loop.
+    #[cycle(dropping_expressions)]
+    fn drop(mut self) {
+        loop {
+            match self {
+                Reference::Plain(_target) => return,
+                Reference::Located {
+                    locator,
+                    target: _target,
+                } => self = Box::into_inner(locator),
+            }
+        }
+    }
+}
+
+impl Drop for Qualified {
+    /// Drops the names from the first one on, in a loop.
+    #[cycle(dropping_expressions)]
+    fn drop(mut self) {
+        loop {
+            match self {
+                Qualified::Last {
+                    name: _name,
+                    arguments: _arguments,
+                } => return,
+                Qualified::Of {
+                    name: _name,
+                    arguments: _arguments,
+                    rest,
+                } => self = Box::into_inner(rest),
+            }
+        }
+    }
+}
+
+impl Drop for Exprs {
+    /// Drops the list from its front, in a loop.
+    #[cycle(dropping_expressions)]
+    fn drop(mut self) {
+        loop {
+            match self {
+                Exprs::End => return,
+                Exprs::More {
+                    first: _first,
+                    rest,
+                } => self = Box::into_inner(rest),
+            }
+        }
+    }
 }

@@ -74,7 +74,7 @@ pub struct Counting {
 
 /// A statement, with the place of its first token after labels. The labels of an END stand last in the list that it closes.
 #[cycle(stmt)]
-#[derive(Debug, Drop)]
+#[derive(Debug)]
 pub enum Stmt {
     Null {
         place: Place,
@@ -208,6 +208,101 @@ impl Drop for Items {
                     first: _first,
                     rest,
                 } => self = Box::into_inner(rest),
+            }
+        }
+    }
+}
+
+impl Drop for Stmt {
+    /// Drops the statement down to its innermost unit, behind ELSE where there is one, in a loop.
+    #[cycle(dropping)]
+    fn drop(mut self) {
+        loop {
+            match self {
+                Stmt::If {
+                    condition: _condition,
+                    unit,
+                    place: _,
+                } => self = Box::into_inner(unit),
+                Stmt::IfElse {
+                    condition: _condition,
+                    unit: _unit,
+                    otherwise,
+                    place: _,
+                } => self = Box::into_inner(otherwise),
+                Stmt::OnUnit {
+                    condition: _,
+                    unit,
+                    place: _,
+                } => self = Box::into_inner(unit),
+                Stmt::Null { place: _ }
+                | Stmt::OnSystem {
+                    condition: _,
+                    place: _,
+                }
+                | Stmt::Stop { place: _ }
+                | Stmt::Signal {
+                    condition: _,
+                    place: _,
+                }
+                | Stmt::Revert {
+                    condition: _,
+                    place: _,
+                } => return,
+                Stmt::Assign {
+                    target: _target,
+                    source: _source,
+                    place: _,
+                } => return,
+                Stmt::Do {
+                    body: _body,
+                    place: _,
+                } => return,
+                Stmt::DoWhile {
+                    condition: _condition,
+                    body: _body,
+                    place: _,
+                } => return,
+                Stmt::DoCount {
+                    counting: _counting,
+                    body: _body,
+                    place: _,
+                } => return,
+                Stmt::Begin {
+                    body: _body,
+                    place: _,
+                } => return,
+                Stmt::Call {
+                    procedure: _procedure,
+                    arguments: _arguments,
+                    place: _,
+                } => return,
+                Stmt::Return {
+                    value: _value,
+                    place: _,
+                } => return,
+                Stmt::Goto {
+                    label: _label,
+                    place: _,
+                } => return,
+                Stmt::Allocate {
+                    allocations: _allocations,
+                    place: _,
+                } => return,
+                Stmt::Free {
+                    freeings: _freeings,
+                    place: _,
+                } => return,
+                Stmt::Get {
+                    skip: _,
+                    pairs: _pairs,
+                    place: _,
+                } => return,
+                Stmt::Put {
+                    skip: _,
+                    pairs: _pairs,
+                    place: _,
+                } => return,
             }
         }
     }

@@ -1,6 +1,7 @@
 // What is known of a word: a number or a name of a refusal, an error or a limit, or a word of ordinary PL/I that is
 // left out.
 
+use crate::advice::push_signs;
 use crate::ordinary::push_forms;
 use crate::topic::{ERRORS, LIMITS, REFUSALS, Topic};
 use std::alloc::{AllocError, Global};
@@ -30,5 +31,6 @@ pub fn explanation(alloc: Global, word: &str) -> Result<String, AllocError> {
     push_called(&mut text, "Error of a run:", &ERRORS, word)?;
     push_called(&mut text, "End of a run:", &LIMITS, word)?;
     push_forms(&mut text, word)?;
+    push_signs(&mut text, word)?;
     Ok(text)
 }

@@ -1,6 +1,7 @@
 // What is told of refusals, errors and limits beyond their fixed lines.
 #![tactic(auto)]
 
+pub mod advice;
 pub mod explain;
 pub mod farthest;
 pub mod message;

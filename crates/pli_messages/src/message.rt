@@ -1,6 +1,6 @@
 // A refusal of a source, in the words that are asked for.
 
-use crate::ordinary::{advice, advice_further};
+use crate::advice::{advice, advice_further};
 use crate::place::{Excerpt, at_column, first_line, from_line};
 use crate::topic::refusal;
 use pli_language::expr::Place;
@@ -71,14 +71,15 @@ impl Message<'_> {
     // further.
     fn instead(&self) -> Option<&'static str> {
         let SourceFault { line, column, kind } = self.fault;
-        let rest = from_line(self.source, line);
-        let found = advice(kind, column, at_column(rest, column).1);
+        let statement = at_column(from_line(self.source, line), column).1;
+        let found = advice(kind, column, statement);
         if found.is_some() {
             return found;
         }
         let Place { line, column } = self.further()?;
         let rest = from_line(self.source, line);
-        advice_further(first_line(rest), column, at_column(rest, column).1)
+        let behind = at_column(rest, column).1;
+        advice_further(statement, first_line(rest), column, behind)
     }
 
     fn explain<W: fmt::Write>(&self, f: &mut fmt::Formatter<W>) -> fmt::Result {

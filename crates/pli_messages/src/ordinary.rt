@@ -1,7 +1,5 @@
 // Ordinary PL/I that this language leaves out, and what to write instead.
 
-use crate::place::at_column;
-use pli_language::fault::SourceKind;
 use std::alloc::AllocError;
 
 /// A form by the word that a refusal of it stands at, a word that the statement has behind it, or none, and what to
@@ -14,28 +12,24 @@ struct Form {
 }
 
 impl Form {
-    // Whether a word is one of the form's, in letters of either case.
+    // Whether a word is one of the form's, or both of them, in letters of either case.
     fn is_of(&self, word: &str) -> bool {
-        let is_behind = !self.has.is_empty() && self.has.eq_ignore_ascii_case(word);
-        is_behind || self.at.eq_ignore_ascii_case(word)
+        let word = word.as_bytes();
+        let (at, has) = (self.at.as_bytes(), self.has.as_bytes());
+        let (front, behind) = word.split_at(at.len().min(word.len()));
+        if front.eq_ignore_ascii_case(at) {
+            let behind = behind.trim_ascii_start();
+            return behind.is_empty() || behind.eq_ignore_ascii_case(has);
+        }
+        !has.is_empty() && has.eq_ignore_ascii_case(word)
     }
 }
 
-const FORMS: [Form; 77] = [
+const FORMS: [Form; 88] = [
     Form {
         at: "PUT",
         has: "PAGE",
         instead: "PUT SKIP; the output has lines, and no pages",
-    },
-    Form {
-        at: "PUT",
-        has: "FILE",
-        instead: "PUT without FILE: there is one output",
-    },
-    Form {
-        at: "PUT",
-        has: "STRING",
-        instead: "assign the text: numbers convert to texts",
     },
     Form {
         at: "PUT",
@@ -53,14 +47,14 @@ const FORMS: [Form; 77] = [
         instead: "PUT SKIP(n)",
     },
     Form {
-        at: "GET",
+        at: "PUT",
         has: "FILE",
-        instead: "GET without FILE: there is one input",
+        instead: "PUT without FILE: there is one output",
     },
     Form {
-        at: "GET",
+        at: "PUT",
         has: "STRING",
-        instead: "convert the text: X = SUBSTR(T, 1, 4)",
+        instead: "assign the text: numbers convert to texts",
     },
     Form {
         at: "GET",
@@ -71,6 +65,16 @@ const FORMS: [Form; 77] = [
         at: "GET",
         has: "DATA",
         instead: "EDIT with a format: GET EDIT (X) (F(6))",
+    },
+    Form {
+        at: "GET",
+        has: "FILE",
+        instead: "GET without FILE: there is one input",
+    },
+    Form {
+        at: "GET",
+        has: "STRING",
+        instead: "convert the text: X = SUBSTR(T, 1, 4)",
     },
     Form {
         at: "LIST",
@@ -91,6 +95,16 @@ const FORMS: [Form; 77] = [
         at: "DO",
         has: "REPEAT",
         instead: "DO WHILE, with an assignment at the end",
+    },
+    Form {
+        at: "DO",
+        has: "FOREVER",
+        instead: "DO WHILE ('1'B)",
+    },
+    Form {
+        at: "DO",
+        has: "LOOP",
+        instead: "DO WHILE ('1'B)",
     },
     Form {
         at: "ITERATE",
@@ -146,6 +160,41 @@ const FORMS: [Form; 77] = [
         at: "ON",
         has: "OVERFLOW",
         instead: "ON FIXEDOVERFLOW",
+    },
+    Form {
+        at: "ON",
+        has: "SIZE",
+        instead: "ON FIXEDOVERFLOW",
+    },
+    Form {
+        at: "ON",
+        has: "UNDERFLOW",
+        instead: "nothing: numbers are whole",
+    },
+    Form {
+        at: "ON",
+        has: "STRINGSIZE",
+        instead: "a test of LENGTH: a text that is too long is cut",
+    },
+    Form {
+        at: "ON",
+        has: "KEY",
+        instead: "nothing: there are no files",
+    },
+    Form {
+        at: "ON",
+        has: "RECORD",
+        instead: "nothing: there are no files",
+    },
+    Form {
+        at: "ON",
+        has: "TRANSMIT",
+        instead: "nothing: there are no files",
+    },
+    Form {
+        at: "ON",
+        has: "UNDEFINEDFILE",
+        instead: "nothing: there are no files",
     },
     Form {
         at: "ON",
@@ -343,6 +392,16 @@ const FORMS: [Form; 77] = [
         instead: "a DO loop with INDEX and SUBSTR",
     },
     Form {
+        at: "UPPERCASE",
+        has: "",
+        instead: "a DO loop with INDEX and SUBSTR",
+    },
+    Form {
+        at: "LOWERCASE",
+        has: "",
+        instead: "a DO loop with INDEX and SUBSTR",
+    },
+    Form {
         at: "DIMENSION",
         has: "",
         instead: "DIM",
@@ -411,8 +470,8 @@ const FORMS: [Form; 77] = [
 
 /// The words of what is left of a statement: names and numbers whole, texts whole, and other bytes one by one.
 #[derive(Clone, Copy)]
-struct Words<'a> {
-    rest: &'a [u8],
+pub(crate) struct Words<'a> {
+    pub rest: &'a [u8],
 }
 
 fn is_of_a_word(byte: u8) -> bool {
@@ -436,8 +495,8 @@ fn length_of_word(bytes: &[u8]) -> usize {
 }
 
 impl<'a> Words<'a> {
-    // The next word, up to the statement's semicolon.
-    fn take(&mut self) -> Option<&'a [u8]> {
+    /// The next word, up to the statement's semicolon.
+    pub fn take(&mut self) -> Option<&'a [u8]> {
         let rest = self.rest.trim_ascii_start();
         let (word, behind) = rest.split_at(length_of_word(rest).min(rest.len()));
         self.rest = behind;
@@ -447,8 +506,8 @@ impl<'a> Words<'a> {
         }
     }
 
-    // Whether one of the words is this one.
-    fn have(self, wanted: &str) -> bool {
+    /// Whether one of the words is this one.
+    pub fn have(self, wanted: &str) -> bool {
         let mut left = self;
         // (a word has one byte at least)
         for _ in 0..self.rest.len() {
@@ -462,8 +521,8 @@ impl<'a> Words<'a> {
     }
 }
 
-// What to write instead of a form that begins where a statement was refused.
-fn instead_of(rest: &[u8]) -> Option<&'static str> {
+/// What to write instead of a form that begins where a statement was refused.
+pub(crate) fn instead_of(rest: &[u8]) -> Option<&'static str> {
     let mut words = Words { rest };
     let first = words.take()?;
     for form in FORMS.iter() {
@@ -486,57 +545,4 @@ pub(crate) fn push_forms(text: &mut String, word: &str) -> Result<(), AllocError
         }
     }
     Ok(())
-}
-
-// What to write instead of a byte that begins no token.
-fn instead_of_byte(byte: u8) -> Option<&'static str> {
-    match byte {
-        b'"' => Some("texts stand in single quotes: 'TEXT'"),
-        b'!' | 0xac | 0xc2 => Some("^ for not, ^= for not equal, || to join texts"),
-        b'%' => Some("put the files together first: there is no %INCLUDE"),
-        0xef => Some("take out the byte order mark at the file's start"),
-        0x1a => Some("take out the Ctrl-Z at the file's end"),
-        b'[' | b']' | b'{' | b'}' => Some("subscripts stand in parentheses: A(I)"),
-        _ => None,
-    }
-}
-
-const NO_NUMBERS: &str =
-    "columns 73 to 80 count like all others: --margins 2,72 makes blanks of column 1 and sequence numbers";
-
-/// What to write instead of what was refused at a column, where the rest of the source from there on begins with a
-/// form of ordinary PL/I.
-pub fn advice(kind: SourceKind, column: u32, rest: &[u8]) -> Option<&'static str> {
-    match kind {
-        SourceKind::BadByte => instead_of_byte(*rest.first()?),
-        SourceKind::Syntax | SourceKind::LeftOut | SourceKind::Undeclared => {
-            match instead_of(rest) {
-                None if column >= 73 => Some(NO_NUMBERS),
-                found => found,
-            }
-        }
-        _ => None,
-    }
-}
-
-/// What to write instead where a statement can be read no further than to the rest of the source from a column of a
-/// line on.
-pub fn advice_further(line: &[u8], column: u32, rest: &[u8]) -> Option<&'static str> {
-    if column >= 73 {
-        return Some(NO_NUMBERS);
-    }
-    let mut words = Words { rest };
-    match (words.take()?, words.take()) {
-        ([b'*'], Some([b')'])) => return Some("the array's name alone, as in A = 0, or a loop"),
-        ([b'+' | b'-' | b'*' | b'/'], Some([b'='])) => return Some("the target again: X = X + 1"),
-        ([b'.'], _) => return Some("whole numbers, counted in the smallest unit"),
-        _ => {}
-    }
-    let (before, _) = at_column(line, column);
-    match instead_of(rest) {
-        None if before.trim_ascii_start().is_empty() => {
-            Some("a semicolon at the end of the line before")
-        }
-        found => found,
-    }
 }

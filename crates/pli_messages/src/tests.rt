@@ -1,8 +1,8 @@
 // What users see beside a refusal's line.
 
+use crate::advice::{advice, advice_further};
 use crate::explain::explanation;
 use crate::message::{Message, STYLES, Style};
-use crate::ordinary::{advice, advice_further};
 use crate::place::at_column;
 use crate::topic::{ERRORS, REFUSALS};
 use pli_language::expr::Place;
@@ -61,6 +61,32 @@ fn ordinary_forms_have_other_words(rt: HostRuntime) -> Result<(), Fail> {
             Some("texts stand in single quotes: 'TEXT'"),
         ),
         (SourceKind::BadByte, "", None),
+        (
+            SourceKind::BadByte,
+            "~= Y",
+            Some("^ for not, ^= for not equal, || to join texts"),
+        ),
+        (
+            SourceKind::Syntax,
+            "PUT FILE(SYSPRINT) LIST (X);",
+            Some("EDIT with a format: PUT SKIP EDIT (X) (F(6))"),
+        ),
+        (
+            SourceKind::Syntax,
+            "(NOSIZE): X = 1;",
+            Some("nothing: conditions have no prefix, and are always raised"),
+        ),
+        (
+            SourceKind::LeftOut,
+            "'101'B;",
+            Some("'0'B or '1'B; an array of BIT(1) for more bits"),
+        ),
+        (
+            SourceKind::Undeclared,
+            "SUM(A);",
+            Some("a DO loop that adds"),
+        ),
+        (SourceKind::Undeclared, "SUM = SUM + 1;", None),
         (SourceKind::TypeMismatch, "LIST", None),
     ] {
         assert_eq!(rt; advice(kind, 1, rest.as_bytes()), wanted, "{rest}");
@@ -122,6 +148,16 @@ fn words_are_explained(rt: HostRuntime) -> Result<(), Fail> {
     for form in ["PUT LIST", "GET LIST", "LIST"] {
         assert!(rt; list.as_str().contains(form));
     }
+    for word in ["put list", "*PROCESS", "%include", "bom", "a(*)", "**"] {
+        let told = explanation(rt.alloc(), word)?;
+        assert!(rt; told.as_str().starts_with("Left out: "), "{word}");
+    }
+    let include = explanation(rt.alloc(), "INCLUDE")?;
+    assert_eq!(rt;
+        include.as_str(),
+        "Left out: %INCLUDE\nInstead: put the files together first, and take out other lines with %: \
+        there is no preprocessor.\n"
+    );
     for (style, word) in [Style::Short, Style::Long, Style::Gcc].iter().zip(&STYLES) {
         assert!(rt; Style::named(word) == *style);
     }
@@ -168,6 +204,11 @@ fn what_stands_further_on_has_other_words(rt: HostRuntime) -> Result<(), Fail> {
             Some("the array's name alone, as in A = 0, or a loop"),
         ),
         (
+            "DCL A(3) FIXED BIN INIT((*)0);",
+            26,
+            Some("nothing: elements without a value begin as 0"),
+        ),
+        (
             "X = 1.5;",
             6,
             Some("whole numbers, counted in the smallest unit"),
@@ -179,6 +220,28 @@ fn what_stands_further_on_has_other_words(rt: HostRuntime) -> Result<(), Fail> {
         ),
         ("X += 1;", 3, Some("the target again: X = X + 1")),
         ("X = 1 Y = 2;", 7, None),
+        ("IF X <> Y THEN STOP;", 7, Some("^= for not equal")),
+        ("IF X => Y THEN STOP;", 7, None),
+        ("X, Y = 0;", 2, Some("an assignment for each variable")),
+        ("S = T, BY NAME;", 6, Some("an assignment for each member")),
+        ("DO I = 1, 3;", 9, Some("a DO group for each start")),
+        (
+            "PUT EDIT (X) (F(7,2));",
+            18,
+            Some("F with a width alone: numbers are whole"),
+        ),
+        (
+            "PUT EDIT (X) (P'999');",
+            15,
+            Some("F, with signs and points as texts of your own"),
+        ),
+        ("CALL Q (X P);", 11, None),
+        (
+            "PUT EDIT ((A(I) DO I = 1 TO 3)) (F(3));",
+            17,
+            Some("the array's name alone, or a DO group around the statement"),
+        ),
+        ("Y = 2 ELSE Y = 3;", 7, Some("a semicolon in front of ELSE")),
         (
             "PUT SKIP LIST (X);",
             10,
@@ -187,7 +250,7 @@ fn what_stands_further_on_has_other_words(rt: HostRuntime) -> Result<(), Fail> {
     ] {
         let (_, rest) = at_column(line.as_bytes(), column);
         assert_eq!(rt;
-            advice_further(line.as_bytes(), column, rest),
+            advice_further(line.as_bytes(), line.as_bytes(), column, rest),
             wanted,
             "{line}"
         );

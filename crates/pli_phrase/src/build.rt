@@ -10,6 +10,7 @@ use crate::frame::{Path, Qualifier};
 use pli_language::expr::{
     Arguments, Expr, Exprs, InfixOp, Name, Place, PrefixOp, Qualified, Reference,
 };
+use pli_language::token::Word;
 use std::alloc::{AllocError, Global};
 
 /// An operand with a prefix operator before it.
@@ -136,6 +137,18 @@ fn last(name: Name, arguments: Arguments) -> Qualified
     ensures { qualified_of result ≡ T.Last (name_of name) (arguments_of arguments) }
 {
     Qualified::Last { name, arguments }
+}
+
+/// What stands in place of a reference that was taken.
+pub fn nothing(alloc: Global) -> Reference {
+    Reference::Plain(Qualified::Last {
+        name: Name {
+            letters: Vec::new(alloc),
+            word: Word::Other,
+            place: Place { line: 0, column: 0 },
+        },
+        arguments: Arguments::Absent,
+    })
 }
 
 /// A qualifier before a name.

@@ -7,7 +7,7 @@ ghost use Rattle.pli_phrase.specs.Reading.{arguments_from, as_reference, assignm
 ghost use Rattle.pli_phrase.specs.Lists.{past_comma};
 ghost use Rattle.pli_phrase.specs.View.{cursor_of};
 
-use crate::build::{absent, arguments as argument_list, listed};
+use crate::build::{absent, arguments as argument_list, listed, nothing};
 use crate::cursor::{Cursor, Marks};
 use crate::engine::{no_path, run};
 use crate::frame::{Frame, State};
@@ -16,6 +16,7 @@ use crate::token::{begins, is_terminal, next_kind, place, taken};
 use pli_language::expr::{Arguments, Expr, Exprs, Reference};
 use pli_language::token::{Kind, Symbol};
 use std::alloc::{AllocError, Global};
+use std::mem::replace;
 
 /// An expression, as long as one goes on.
 #[tactic(auto, using(crate::proofs::Newest::newest_none), unfolding(crate::specs::Reading::expr_from))]
@@ -32,13 +33,15 @@ pub fn expression<'a>(
 /// An expression that is a reference.
 #[tactic(auto, unfolding(pli_language::specs::View::expr_of))]
 fn as_reference<'a>(
+    alloc: Global,
     expression: Expr,
     cursor: Cursor<'a>,
 ) -> Result<(Reference, Cursor<'a>), Stop<'a>>
     ensures { Gives (λ x. (reference_of x.0, cursor_of x.1)) result (as_reference (expr_of expression, cursor_of cursor.entry)) }
 {
-    match expression {
-        Expr::Refers(reference) => Ok((reference, cursor)),
+    let mut expression = expression;
+    match &mut expression {
+        Expr::Refers(reference) => Ok((replace(reference, nothing(alloc)), cursor)),
         _ => Err(Stop::Stuck),
     }
 }
@@ -58,7 +61,7 @@ pub fn reference<'a>(
         path: no_path(alloc),
     };
     let (expression, cursor) = run(alloc, source, state, frames, cursor)?;
-    as_reference(expression, cursor)
+    as_reference(alloc, expression, cursor)
 }
 
 /// An argument is due at the first token, or an expression that is none.

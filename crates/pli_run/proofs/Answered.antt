@@ -44,7 +44,7 @@ table_fits : (program : Y.Program) → IsProved program → AreSignatures (table
 table_fits program (inl forms) = plain_table_fits program forms
 table_fits program (inr (inl numbers)) =
     number_table_fits program
-    (and_parts (are_all_known program.variables) (has_main false program program.procedures) numbers).0
+    (and_parts (are_all_known program.variables) (has_main program program.procedures) numbers).0
 table_fits program (inr (inr units)) =
     number_table_fits program
     (all_known program.variables

@@ -1,6 +1,13 @@
 // The typed tree: the tree with the declaration, or the built-in, at each reference and the kind at each expression. Its statements stand
 // in a module of their own.
 
+ghost use Rattle.std.specs.Prelude.{◌≡◌, ◌<◌, IfErr, IfOk};
+ghost use Rattle.pli_typing.specs.declared.typed.Bit.{size-Bit};
+ghost use Rattle.pli_typing.specs.declared.typed.Number.{size-Number};
+ghost use Rattle.pli_typing.specs.declared.typed.Offset.{size-Offset};
+ghost use Rattle.pli_typing.specs.declared.typed.Reference.{size-Reference};
+ghost use Rattle.pli_typing.specs.declared.typed.Text.{size-Text};
+
 use pli_language::declaration::InitialItem;
 use pli_language::stmt::Formats;
 
@@ -346,165 +353,244 @@ pub enum Stored<'a> {
     Offset(Offset<'a>),
 }
 
-impl Drop for Number<'_> {
-    /// Drops what the expression is made of.
-    #[cycle(dropping_expressions)]
-    fn drop(self) {
+impl<'a> Number<'a> {
+    /// The bit that it is made from, or itself.
+    fn into_bit(self) -> Result<Bit<'a>, Number<'a>>
+        ensures bit { IfOk result (λ b. size-Bit b < size-Number self.entry) }
+        ensures other { IfErr result (λ n. n ≡ self.entry) }
+    {
         match self {
-            Number::In(_inner) => (),
-            Number::From {
-                callee: _,
-                arguments: _arguments,
-            } => (),
-            Number::OfText(_inner) => (),
-            Number::OfBit(_inner) => (),
-            Number::Signed {
-                sign: _,
-                operand: _operand,
-            } => (),
-            Number::Calculated {
-                operator: _,
-                left: _left,
-                right: _right,
-            } => (),
-            Number::Absolute(_inner) => (),
-            Number::SignOf(_inner) => (),
-            Number::Extreme {
-                which: _,
-                first: _first,
-                more: _more,
-            } => (),
-            Number::Modulo {
-                dividend: _dividend,
-                divisor: _divisor,
-            } => (),
-            Number::Divided {
-                precision: _,
-                dividend: _dividend,
-                divisor: _divisor,
-            } => (),
-            Number::LengthOf(_inner) => (),
-            Number::IndexOf {
-                searched: _searched,
-                sought: _sought,
-            } => (),
-            Number::VerifyOf {
-                searched: _searched,
-                allowed: _allowed,
-            } => (),
-            Number::LowerBound {
-                array: _array,
-                dimension: _,
-            } => (),
-            Number::UpperBound {
-                array: _array,
-                dimension: _,
-            } => (),
-            Number::ElementsOf {
-                array: _array,
-                dimension: _,
-            } => (),
-            Number::Constant(_) | Number::AllocationsOf(_) | Number::OnCode => (),
+            Number::OfBit(bit) => Ok(Box::into_inner(bit)),
+            other => Err(other),
+        }
+    }
+}
+
+impl<'a> Text<'a> {
+    /// The bit that it is made from, or itself.
+    fn into_bit(self) -> Result<Bit<'a>, Text<'a>>
+        ensures bit { IfOk result (λ b. size-Bit b < size-Text self.entry) }
+        ensures other { IfErr result (λ t. t ≡ self.entry) }
+    {
+        match self {
+            Text::OfBit(bit) => Ok(Box::into_inner(bit)),
+            other => Err(other),
+        }
+    }
+}
+
+impl Drop for Number<'_> {
+    /// Drops the expression down to its first operand, in a loop: operators stand thousands in a row.
+    #[cycle(dropping_expressions)]
+    fn drop(mut self) {
+        loop {
+            match self {
+                Number::In(_inner) => return,
+                Number::From {
+                    callee: _,
+                    arguments: _arguments,
+                } => return,
+                Number::OfText(_inner) => return,
+                Number::OfBit(_inner) => return,
+                Number::Signed { sign: _, operand } => self = Box::into_inner(operand),
+                Number::Calculated {
+                    operator: _,
+                    left,
+                    right: _right,
+                } => self = Box::into_inner(left),
+                Number::Absolute(_inner) => return,
+                Number::SignOf(_inner) => return,
+                Number::Extreme {
+                    which: _,
+                    first: _first,
+                    more: _more,
+                } => return,
+                Number::Modulo {
+                    dividend: _dividend,
+                    divisor: _divisor,
+                } => return,
+                Number::Divided {
+                    precision: _,
+                    dividend: _dividend,
+                    divisor: _divisor,
+                } => return,
+                Number::LengthOf(_inner) => return,
+                Number::IndexOf {
+                    searched: _searched,
+                    sought: _sought,
+                } => return,
+                Number::VerifyOf {
+                    searched: _searched,
+                    allowed: _allowed,
+                } => return,
+                Number::LowerBound {
+                    array: _array,
+                    dimension: _,
+                } => return,
+                Number::UpperBound {
+                    array: _array,
+                    dimension: _,
+                } => return,
+                Number::ElementsOf {
+                    array: _array,
+                    dimension: _,
+                } => return,
+                Number::Constant(_) | Number::AllocationsOf(_) | Number::OnCode => return,
+            }
         }
     }
 }
 
 impl Drop for Text<'_> {
-    /// Drops what the expression is made of.
+    /// Drops the expression down to its first operand, in a loop: operators stand thousands in a row.
     #[cycle(dropping_expressions)]
-    fn drop(self) {
-        match self {
-            Text::In(_inner) => (),
-            Text::From {
-                callee: _,
-                arguments: _arguments,
-            } => (),
-            Text::OfNumber {
-                precision: _,
-                number: _number,
-            } => (),
-            Text::OfBit(_inner) => (),
-            Text::Joined {
-                left: _left,
-                right: _right,
-            } => (),
-            Text::SubstringFrom {
-                text: _text,
-                start: _start,
-            } => (),
-            Text::Substring {
-                text: _text,
-                start: _start,
-                count: _count,
-            } => (),
-            Text::Constant(_) => (),
+    fn drop(mut self) {
+        loop {
+            match self {
+                Text::In(_inner) => return,
+                Text::From {
+                    callee: _,
+                    arguments: _arguments,
+                } => return,
+                Text::OfNumber {
+                    precision: _,
+                    number: _number,
+                } => return,
+                Text::OfBit(_inner) => return,
+                Text::Joined {
+                    left,
+                    right: _right,
+                } => self = Box::into_inner(left),
+                Text::SubstringFrom {
+                    text: _text,
+                    start: _start,
+                } => return,
+                Text::Substring {
+                    text: _text,
+                    start: _start,
+                    count: _count,
+                } => return,
+                Text::Constant(_) => return,
+            }
         }
     }
 }
 
 impl Drop for Bit<'_> {
-    /// Drops what the expression is made of.
+    /// Drops the expression down to its first operand, in a loop: operators stand thousands in a row.
     #[cycle(dropping_expressions)]
-    fn drop(self) {
-        match self {
-            Bit::In(_inner) => (),
-            Bit::From {
-                callee: _,
-                arguments: _arguments,
-            } => (),
-            Bit::OfText(_inner) => (),
-            Bit::Negated(_inner) => (),
-            Bit::Combined {
-                operator: _,
-                left: _left,
-                right: _right,
-            } => (),
-            Bit::NumbersCompared {
-                comparison: _,
-                left: _left,
-                right: _right,
-            } => (),
-            Bit::TextsCompared {
-                comparison: _,
-                left: _left,
-                right: _right,
-            } => (),
-            Bit::BitsCompared {
-                comparison: _,
-                left: _left,
-                right: _right,
-            } => (),
-            Bit::PointersCompared {
-                equal: _,
-                left: _left,
-                right: _right,
-            } => (),
-            Bit::OffsetsCompared {
-                equal: _,
-                left: _left,
-                right: _right,
-            } => (),
-            Bit::Constant(_) => (),
+    fn drop(mut self) {
+        loop {
+            match self {
+                Bit::In(_inner) => return,
+                Bit::From {
+                    callee: _,
+                    arguments: _arguments,
+                } => return,
+                Bit::OfText(_inner) => return,
+                Bit::Negated(inner) => self = Box::into_inner(inner),
+                Bit::Combined {
+                    operator: _,
+                    left,
+                    right: _right,
+                } => self = Box::into_inner(left),
+                Bit::NumbersCompared {
+                    comparison: _,
+                    left,
+                    right: _right,
+                } => match Box::into_inner(left).into_bit() {
+                    Ok(bit) => self = bit,
+                    Err(_number) => return,
+                },
+                Bit::TextsCompared {
+                    comparison: _,
+                    left,
+                    right: _right,
+                } => match Box::into_inner(left).into_bit() {
+                    Ok(bit) => self = bit,
+                    Err(_text) => return,
+                },
+                Bit::BitsCompared {
+                    comparison: _,
+                    left,
+                    right: _right,
+                } => self = Box::into_inner(left),
+                Bit::PointersCompared {
+                    equal: _,
+                    left: _left,
+                    right: _right,
+                } => return,
+                Bit::OffsetsCompared {
+                    equal: _,
+                    left: _left,
+                    right: _right,
+                } => return,
+                Bit::Constant(_) => return,
+            }
         }
     }
 }
 
 impl Drop for Pointer<'_> {
-    /// Drops what the expression is made of.
+    /// Drops the locator down to the first one, in a loop: locators stand thousands in a row.
     #[cycle(dropping_expressions)]
-    fn drop(self) {
+    fn drop(mut self) {
+        loop {
+            match self {
+                Pointer::In(reference) => match Box::into_inner(reference) {
+                    Reference::Plain {
+                        variable: _,
+                        part: _,
+                        subscripts: _subscripts,
+                    } => return,
+                    Reference::Located {
+                        locator,
+                        variable: _,
+                        part: _,
+                        subscripts: _subscripts,
+                    } => self = Box::into_inner(locator),
+                },
+                Pointer::From {
+                    callee: _,
+                    arguments: _arguments,
+                } => return,
+                Pointer::AddressOf(_inner) => return,
+                Pointer::Into { offset, area: _ } => match Box::into_inner(
+                    offset,
+                ).into_reference()
+                {
+                    Ok(
+                        Reference::Plain {
+                            variable: _,
+                            part: _,
+                            subscripts: _subscripts,
+                        },
+                    ) => return,
+                    Ok(
+                        Reference::Located {
+                            locator,
+                            variable: _,
+                            part: _,
+                            subscripts: _subscripts,
+                        },
+                    ) => self = Box::into_inner(locator),
+                    Err(_offset) => return,
+                },
+                Pointer::Null => return,
+            }
+        }
+    }
+}
+
+impl<'a> Offset<'a> {
+    /// The reference that it is fetched from, or itself.
+    fn into_reference(self) -> Result<Reference<'a>, Offset<'a>>
+        ensures reference { IfOk result (λ r. size-Reference r < size-Offset self.entry) }
+        ensures other { IfErr result (λ o. o ≡ self.entry) }
+    {
         match self {
-            Pointer::In(_inner) => (),
-            Pointer::From {
-                callee: _,
-                arguments: _arguments,
-            } => (),
-            Pointer::AddressOf(_inner) => (),
-            Pointer::Into {
-                offset: _offset,
-                area: _,
-            } => (),
-            Pointer::Null => (),
+            Offset::In(reference) => Ok(Box::into_inner(reference)),
+            other => Err(other),
         }
     }
 }

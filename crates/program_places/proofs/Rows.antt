@@ -23,11 +23,11 @@ use Rattle.storage_relation.specs.ServiceLaws.{TableDiffers}
 use Rattle.activation_relation.specs.Layers.{Point, services_of}
 use Rattle.run_steps.specs.Items.{Linked}
 use Rattle.run_steps.proofs.Jumps.{back_of, front_of}
-use Rattle.run_steps.specs.Reach.{Comes, never}
+use Rattle.run_steps.specs.Reach.{Comes}
 use Rattle.block_runs.proofs.CallStatements.{given_code}
 use Rattle.program_runs.specs.Calls.{Callee, IsCall, block_at, body_index, labels_of, left_over}
 use Rattle.program_runs.specs.Programs.{IsWhole, Whole, main_of}
-use Rattle.program_runs.specs.Starts.{first_family, no_numbers, start_point, surroundings_of}
+use Rattle.program_runs.specs.Starts.{first_family, no_numbers, start_point, surroundings_of, never_in}
 use Rattle.program_runs.specs.Statements.{Block, Does, EachDoes, IsBegun, IsOwn}
 use Rattle.program_runs.proofs.Calls.{none_made}
 use Rattle.program_runs.proofs.CallStatements.{call_does, statement_at}
@@ -239,7 +239,8 @@ pub turning_runs :
     length first ≡ memory_size →
     Comes (linked_code (code_for turning_program)) 0
     (first_family first (services_of (start_point (image_for turning_program (turning_run input acts)))))
-    (services_of (start_point (image_for turning_program (turning_run input acts)))) never
+    (services_of (start_point (image_for turning_program (turning_run input acts))))
+    (never_in (image_for turning_program (turning_run input acts)))
     (run turning_program (suc acts) acts (first_state input))
 turning_runs keeps once tables input first acts few bytes =
     program_runs keeps (turning_whole input acts) first (turning_is once tables input first acts few bytes)

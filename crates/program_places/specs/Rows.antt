@@ -9,8 +9,8 @@ use Rattle.pli_meaning.specs.Executing.{meaning, run}
 use Rattle.pli_meaning.specs.StorageState.{first_state}
 use Rattle.pli_coding.specs.Images.{linked_code}
 use Rattle.activation_relation.specs.Layers.{services_of}
-use Rattle.run_steps.specs.Reach.{Comes, never}
-use Rattle.program_runs.specs.Starts.{first_family, start_point}
+use Rattle.run_steps.specs.Reach.{Comes}
+use Rattle.program_runs.specs.Starts.{first_family, start_point, never_in}
 use Rattle.program_places.specs.Programs.{Main, Run, code_for, image_for}
 
 -- ---- L: CALL P; GOTO L; with P: PROCEDURE; RETURN; END P; inside
@@ -59,7 +59,8 @@ pub record TurningRan : Type 0 where
       (input first : List ℕ) (acts : ℕ) → acts + 1 < 2 ^ 64 → length first ≡ memory_size →
       Comes (linked_code (code_for turning_program)) 0
       (first_family first (services_of (start_point (image_for turning_program (turning_run input acts)))))
-      (services_of (start_point (image_for turning_program (turning_run input acts)))) never
+      (services_of (start_point (image_for turning_program (turning_run input acts))))
+      (never_in (image_for turning_program (turning_run input acts)))
       (run turning_program (suc acts) acts (first_state input))
   -- it goes on after its ninth act
   pub goes_on :

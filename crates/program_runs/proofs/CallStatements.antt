@@ -190,8 +190,8 @@ call_goes words low k c labels acts line index left' more h p numbers wanted f o
     (parent_frame h (newest_at b o)) (front_of given' call l) there)
     (λ g at.
     comes_map (behind_aims (called_at w k.call.code c p numbers) wanted)
-    (before k.call.code aims w.acts behind_call) flow
-    (λ c' f' v' r s q. record { to = behind_goes h o since q })
+    (before k.call.code aims w.acts behind_call) refl flow
+    (λ c' f' v' r s q. record { to = λ early. behind_goes h o since q })
     (λ c' f' v' height label s q. absurd q)
     (λ c' f' v' r s q. absurd q)
     (procedure_comes w k.call.code c p numbers (0 + size_of given') wanted g (o.stands, o.image) o.few

@@ -49,6 +49,7 @@ use Rattle.program_runs.proofs.Procedures.{layer_begins}
 use Rattle.program_runs.proofs.Lists.{list_does}
 use Rattle.program_runs.proofs.JumpsOut.{end_later, no_jump}
 use Rattle.program_runs.proofs.Statements.{at_end}
+use Rattle.block_runs.proofs.Early.{comes_early}
 
 -- ---- what its block means: its variables, the act of its entry, and its statements
 
@@ -228,7 +229,7 @@ body_goes w code c p numbers f h b o each few there =
     let inside = l2.inside in
     let flow = M.list k.around x.body w.acts k.first.state in
     let acts = k.first.state.world.acts in
-    comes_map (statement_aims k [] acts c.calling.end left_over left_over) (body_aims k.call left_over) flow
+    comes_map (statement_aims k [] acts c.calling.end left_over left_over) (body_aims k.call left_over) refl flow
     (λ c' f' v' r s q. at_end b refl (omega arith) q)
     (λ c' f' v' height label s q. no_jump refl q)
     (λ c' f' v' r s q. q.to)
@@ -287,7 +288,9 @@ procedure_comes w code c p numbers credits wanted f known serials h made' words 
     let c0 = credits + (left_over + size_of (end_of x)) + 2 + size_of (begin_of x) in
     subst (λ flow. Comes code credits f (services_of p) (behind_aims k wanted) flow)
     (sym (block_means c.around x.head x.body c.calling.parent w.acts p.state h.0.kind h.1.shallow))
-    (calls_return k (body_of c.around x.head x.body) credits left_over wanted f is
+    (comes_early w refl there
+    (λ early.
+    calls_return k (body_of c.around x.head x.body) credits left_over wanted f is
     (λ g at.
     subst (λ flow. Comes code c0 g (services_of start) (body_aims k left_over)
     (flow_on w.acts flow (λ u. behind_variables around' x.body))) (sym made'.means)
@@ -299,9 +302,9 @@ procedure_comes w code c p numbers credits wanted f known serials h made' words 
     (λ g'' less at''.
     let same = ap (λ (u : World). u.acts) made'.world in
     let o = first_among w code c p numbers stands' words less
-    (few_made w p (block_at w code c p numbers).first serials made'.few (omega (arith, same))) in
+    (few_made w p (block_at w code c p numbers).first early made'.few (omega (arith, same, less))) in
     let b = first_begun w code c p numbers made' new.0 o.stands in
-    each b o g'' at''))))) there gives)
+    each b o g'' at''))))) there gives))
 
 pub procedure_runs :
     (w : Surroundings) (code : List Instr) (c : Callee) (p : Point) (numbers : ℕ → ℕ) (credits wanted : ℕ)

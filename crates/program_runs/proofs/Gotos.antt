@@ -75,7 +75,7 @@ goto_does k labels label line index left' h near l p numbers c wanted f o paid t
     (record { reserved_stay = λ y u. refl; known_stay = λ b y u q. q; set = λ y u. refl }) (back_of one jump l')
     (λ b. known_in frame (at b) tt) in
     record {
-      to = λ i0 f0 v0 from. at_label (record {
+      to = λ early i0 f0 v0 from. at_label (record {
         own = own_ancestor near.level (newest_at near.begun o');
         carried = near.carried;
         point = acted line p;

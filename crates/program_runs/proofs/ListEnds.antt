@@ -12,7 +12,7 @@ use Rattle.pli_meaning.specs.Executing as M
 use Rattle.pli_meaning.specs.Raising.{Around, error}
 use Rattle.pli_meaning.specs.StorageState.{State, newest_height}
 use Rattle.pli_serving.specs.ServiceState.{Services}
-use Rattle.run_steps.specs.Reach.{Aims, Comes, Family}
+use Rattle.run_steps.specs.Reach.{Aims, Comes, Family, ComesTo}
 
 -- no jump that the list would catch
 abbrev IsPast : (height : ℕ) → List Label → Flow (Unit {0}) → Type 0
@@ -99,13 +99,17 @@ pub list_comes :
     Comes code i f v aims (flow_on k (M.list around body k s) (λ u. error around no_value_code)) →
     Comes code i f v aims (M.block_list around body true k s)
 list_comes {code} {i} {f} {v} {aims} around body k s elsewhere o =
-    subst (λ flow. Comes code i f v aims flow) (sym (list_ends around body k s (by (ended_flow around body k s) o))) o
+    record {
+      to = λ early.
+          subst (λ flow. ComesTo code i f v aims flow)
+          (sym (list_ends around body k s (by (ended_flow around body k s) (o.to early)))) (o.to early);
+    }
   where
     by :
-        (flow : Flow (Unit {0})) → Comes code i f v aims flow →
+        (flow : Flow (Unit {0})) → ComesTo code i f v aims flow →
         IsPast (newest_height s.activations) (M.labels_in body) flow
     by (Normal r s') o = tt
-    by (Jump height label s') o = elsewhere height label s' o.to
+    by (Jump height label s') o = elsewhere height label s' o
     by (Return r s') o = tt
     by (F.Ended s') o = tt
     by (Paused s') o = tt

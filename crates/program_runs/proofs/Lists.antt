@@ -79,7 +79,8 @@ pub comes_since :
     Comes k.call.code c f v (statement_aims k labels more index wanted left') flow →
     Comes k.call.code c f v (statement_aims k labels acts index wanted left') flow
 comes_since {k} {labels} {acts} {more} {index} {wanted} {left'} {flow = flow} few o =
-    comes_map (statement_aims k labels more index wanted left') (statement_aims k labels acts index wanted left') flow
+    comes_map (statement_aims k labels more index wanted left') (statement_aims k labels acts index wanted left')
+    refl flow
     (λ c f v r s q. goes_since few q)
     (λ c f v height label s q. jumps_since few q)
     (λ c f v r s q. q)
@@ -100,7 +101,10 @@ statements_do :
 unfolding M.statements give choose ◌>>◌
 statements_do words k labels (Y.EndOfList own) acts index left' c wanted p numbers f since each o l fits there =
     let n = marked_size k.environment.block own in
-    record { to = none_left k acts _ c wanted p numbers f since o fits.0 (moved_in k f (omega (arith, n)) there) }
+    record {
+      to = λ early.
+          none_left k acts _ c wanted p numbers f since o fits.0 (moved_in k f (omega (arith, n)) there);
+    }
 statements_do words k labels (Y.StmtThen own first rest) acts index left' c wanted p numbers f since each o l fits
     there =
     let w = k.call.surroundings in
@@ -121,7 +125,7 @@ statements_do words k labels (Y.StmtThen own first rest) acts index left' c want
     (M.statements k.around (Y.StmtThen own first rest) None w.acts p.state)) (omega (arith, n0, n1))
     (comes_on w.acts (M.statement k.around first w.acts p.state) next'
     (comes_map (statement_aims k labels p.state.world.acts (i + size_of one) 0 left')
-    (before k.call.code goal w.acts next') (M.statement k.around first w.acts p.state)
+    (before k.call.code goal w.acts next') refl (M.statement k.around first w.acts p.state)
     (λ c' f' v' r s q.
     let later = q.since in
     subst (λ u. Comes k.call.code c' f' v' goal (M.statements k.around rest None w.acts u)) (sym q.state)
@@ -164,7 +168,7 @@ sought_do words k labels label (Y.EndOfList own) index left' wanted at p numbers
     let n = marked_size k.environment.block own in
     let here = marks label among in
     record {
-      to = none_left k p.state.world.acts _ 0 wanted p numbers f (omega arith) o (omega arith)
+      to = λ early. none_left k p.state.world.acts _ 0 wanted p numbers f (omega arith) o (omega arith)
           (moved_in k f (omega (arith, n, here, place)) there);
     }
 sought_do words k labels label (Y.StmtThen own first rest) index left' wanted at p numbers f each marks o l among place
@@ -278,7 +282,7 @@ lands_caught {k} {labels} {acts} {index} {wanted} {left'} {c} {f} {v} own height
         subst (λ t. Comes k.call.code c f v goal (cond (t && is_among label own) on (Jump h label s)))
         (sym (eq-eqb h height same_height))
         (subst (λ t. Comes k.call.code c f v goal (cond t on (Jump h label s))) (sym g)
-        (record { to = record { to = inl (lands_on labels (or_else label own labels lands.carried g)) } }))
+        (record { to = λ early. record { to = inl (lands_on labels (or_else label own labels lands.carried g)) } }))
 
 -- a label of a block further out is not the list's
 outs_caught :
@@ -293,7 +297,7 @@ outs_caught {k} {labels} {acts} {index} {wanted} {left'} {c} {f} {v} own height 
     subst (λ t. Comes k.call.code c f v (statement_aims k labels acts index wanted left')
     (cond (t && is_among label own) (next' label w.acts s) (Jump h label s)))
     (sym (eqb-other h height (omega (arith, low, same))))
-    (record { to = record { to = inr out } })
+    (record { to = λ early. record { to = inr out } })
 
 comes_caught :
     {k : Block} {labels : List Label} {acts index wanted left' c : ℕ} {f : Family} {v : Services} (own : List Label)
@@ -307,7 +311,7 @@ comes_caught :
     (caught k.call.surroundings.acts height own flow next')
 comes_caught own height (Normal r s) next' b same goes o = record { to = o.to }
 comes_caught {k} {labels} {acts} {index} {wanted} {left'} {c} {f} {v} own height (Jump h label s) next' b same goes o =
-    by o.to.to
+    record { to = λ early. (by (o.to early).to).to early }
   where
     by :
         LandsAt k (own ++ labels) acts c f v h label s
@@ -316,10 +320,10 @@ comes_caught {k} {labels} {acts} {index} {wanted} {left'} {c} {f} {v} own height
         (caught_by k height own h label s next')
     by (inl here) = lands_caught own height h label s next' same (goes label c f v s) here
     by (inr out) = outs_caught own height h label s next' b same out
-comes_caught own height (Return r s) next' b same goes o = record { to = record { to = o.to.to } }
+comes_caught own height (Return r s) next' b same goes o = record { to = λ early. record { to = (o.to early).to } }
 comes_caught own height (F.Ended s) next' b same goes o = record { to = o.to }
 comes_caught own height (Paused s) next' b same goes o = record { to = o.to }
-comes_caught own height Stuck next' b same goes o = absurd o.to
+comes_caught own height Stuck next' b same goes o = record { to = o.to }
 
 -- ---- turns of a list
 

@@ -1,5 +1,5 @@
 -- The run of a whole program: its start, the main procedure's block, and the end.
-use Rattle.std.proofs.Common.{◌≡◌, ℕ, suc, ◌+◌, List, ◌∷◌, Option, sym, ap, ◌∙◌, subst}
+use Rattle.std.proofs.Common.{◌≡◌, ℕ, suc, ◌+◌, List, ◌∷◌, Option, sym, ap, ◌∙◌, subst, refl}
 use Rattle.std.proofs.Common.{arith}
 use Rattle.pli_typing.specs.TypedTree as Y
 use Rattle.pli_meaning.specs.BasicValues.{BasicValue}
@@ -18,19 +18,20 @@ use Rattle.pli_coding.specs.Procedures.{finish_code}
 use Rattle.activation_relation.specs.Layers.{services_of}
 use Rattle.run_steps.specs.Items.{Linked}
 use Rattle.run_steps.proofs.Jumps.{back_of, rest_of}
-use Rattle.run_steps.specs.Reach.{Comes, before, never}
+use Rattle.run_steps.specs.Reach.{Comes, before}
 use Rattle.run_steps.proofs.Reach.{comes_on, never_closed, onward}
 use Rattle.block_runs.specs.Bodies.{behind_aims}
 use Rattle.block_runs.proofs.CallStatements.{comes_map}
 use Rattle.program_runs.specs.Calls.{block_at, body_index, called_at, labels_of, left_over}
 use Rattle.program_runs.specs.Procedures.{block_of}
 use Rattle.program_runs.specs.Programs.{Whole, IsWhole, main_of}
-use Rattle.program_runs.specs.Starts.{image_parts, surroundings_of, start_point, first_family, call_index}
+use Rattle.program_runs.specs.Starts.{image_parts, surroundings_of, start_point, first_family, call_index, never_in}
 use Rattle.program_runs.specs.Starts.{finish_index, main_called, no_numbers}
 use Rattle.program_runs.specs.Statements.{EachDoes, IsBegun}
 use Rattle.program_runs.proofs.Calls.{BodyComes, body_goes, procedure_comes}
 use Rattle.program_runs.proofs.Ends.{end_comes, finished_kind}
 use Rattle.program_runs.proofs.Starts.{image_starts, start_stands}
+use Rattle.block_runs.specs.Machines.{limits_of}
 
 -- ---- what the program means
 
@@ -69,7 +70,7 @@ pub program_comes :
     Keeps run_keeper → (k : Whole) (first : List ℕ) → IsWhole k first →
     BodyComes (surroundings_of k.image) k.image.code (main_of k) (start_point k.image) no_numbers →
     Comes k.image.code 0 (first_family first (services_of (start_point k.image))) (services_of (start_point k.image))
-    never (M.run k.program (suc k.image.acts) k.image.acts (first_state k.image.input))
+    (never_in k.image) (M.run k.program (suc k.image.acts) k.image.acts (first_state k.image.input))
 program_comes keeps k first h each =
     let i = k.image in
     let w = surroundings_of i in
@@ -81,17 +82,18 @@ program_comes keeps k first h each =
     let room = last.inside in
     let inside = h.start.linked.inside in
     let proc = h.callee.stands.inside in
-    subst (λ flow. Comes i.code 0 (first_family first (services_of p)) (services_of p) never flow)
+    subst (λ flow. Comes i.code 0 (first_family first (services_of p)) (services_of p) (never_in i) flow)
     (sym (run_means k first h))
-    (onward (never_closed i.code) (image_starts keeps i k.main.head.number first 0 h.start)
+    (onward (never_closed i.code (limits_of w)) (image_starts keeps i k.main.head.number first 0 h.start)
     (λ g at.
     comes_on i.acts (main_run k) behind
-    (comes_map (behind_aims (called_at w i.code c p no_numbers) 0) (before i.code never i.acts behind) (main_run k)
+    (comes_map (behind_aims (called_at w i.code c p no_numbers) 0)
+    (before i.code (never_in {R = Unit {0}} i) i.acts behind) refl (main_run k)
     (λ c' f' v' r s q.
-    subst (λ u. Comes {R = Unit {0}} i.code c' f' v' never (finish E.Finished i.acts u)) (sym q.state)
-    (onward (never_closed i.code) q.reach
+    subst (λ u. Comes {R = Unit {0}} i.code c' f' v' (never_in i) (finish E.Finished i.acts u)) (sym q.state)
+    (onward (never_closed i.code (limits_of w)) q.reach
     (λ g' at'.
-    end_comes (never_closed i.code) 0 E.Finished 0 g' (q.stands, q.image) finished_kind
+    end_comes (never_closed i.code (limits_of w)) 0 E.Finished 0 g' (q.stands, q.image) finished_kind
     (omega (arith, room), h.callee.acts) last (λ b. (at' b).0))))
     (λ c' f' v' height label s q. absurd q)
     (λ c' f' v' r s q. absurd q)
@@ -106,7 +108,7 @@ pub program_runs :
     EachDoes (block_at (surroundings_of k.image) k.image.code (main_of k) (start_point k.image) no_numbers)
     (labels_of (main_of k)) k.main.body (body_index (main_of k)) left_over) →
     Comes k.image.code 0 (first_family first (services_of (start_point k.image))) (services_of (start_point k.image))
-    never (M.run k.program (suc k.image.acts) k.image.acts (first_state k.image.input))
+    (never_in k.image) (M.run k.program (suc k.image.acts) k.image.acts (first_state k.image.input))
 program_runs keeps k first h each =
     let same = ap (λ (u : World). u.acts) h.made.world in
     program_comes keeps k first h

@@ -26,7 +26,7 @@ use Rattle.run_steps.specs.DataNamed.{IsNamed}
 use Rattle.run_steps.specs.Items.{Linked}
 use Rattle.run_steps.proofs.Jumps.{front_of, back_of, first_of, rest_of}
 use Rattle.run_steps.proofs.Linking.{has_items, linked_length}
-use Rattle.run_steps.specs.Reach.{Comes, never}
+use Rattle.run_steps.specs.Reach.{Comes}
 use Rattle.block_runs.proofs.CallStatements.{given_code}
 use Rattle.program_runs.specs.Calls.{Callee, IsCallee, IsCall, block_at, body_index, left_over}
 use Rattle.program_runs.specs.Procedures.{Procedure, begin_of, end_of, procedure_code}
@@ -34,7 +34,7 @@ use Rattle.program_runs.specs.Programs.{IsWhole, main_of}
 use Rattle.program_runs.specs.Rows.{row_call, row_main, row_inner, row_program, row_code, row_environment, row_image}
 use Rattle.program_runs.specs.Rows.{row_whole, row_body, row_end, main_entry, inner_entry, main_rest, inner_rest}
 use Rattle.program_runs.specs.Rows.{coded_of}
-use Rattle.program_runs.specs.Starts.{start_of, start_point, surroundings_of, first_family, main_called}
+use Rattle.program_runs.specs.Starts.{start_of, start_point, surroundings_of, first_family, main_called, never_in}
 use Rattle.program_runs.specs.Starts.{no_numbers, image_parts}
 use Rattle.program_runs.specs.Statements.{Block, IsBegun, IsOwn, Does, EachDoes}
 use Rattle.program_runs.proofs.Calls.{none_made}
@@ -313,7 +313,7 @@ row_is input first acts few bytes =
 pub row_runs :
     Keeps run_keeper → (input first : List ℕ) (acts : ℕ) → acts + 1 < 2 ^ 64 → length first ≡ memory_size →
     Comes (linked_code row_code) 0 (first_family first (services_of (start_point (row_image input acts))))
-    (services_of (start_point (row_image input acts))) never
+    (services_of (start_point (row_image input acts))) (never_in (row_image input acts))
     (run row_program (suc acts) acts (first_state input))
 row_runs keeps input first acts few bytes =
     program_runs keeps (row_whole input acts) first (row_is input first acts few bytes) (main_each input acts few)

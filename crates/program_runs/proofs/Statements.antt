@@ -227,7 +227,7 @@ return_does k line index left' h own l labels p numbers c wanted f o paid there 
     (act_comes (before_closed w.acts next' closed) line c 0 f (o.stands, o.image)
     (h.line_fits, h.acts, omega (arith, paid, n0, n1)) (front_of one jump l') there
     (λ g less at. record {
-      to = own_end own.kind (jump_ends k left' (index + size_of one) (acted line p) numbers g own
+      to = λ early. own_end own.kind (jump_ends k left' (index + size_of one) (acted line p) numbers g own
           (acted_among line o less) (back_of one jump l') at);
     }))
 

@@ -6,10 +6,10 @@ use Rattle.pli_meaning.specs.Making.{statics_from}
 use Rattle.pli_meaning.specs.StorageState.{first_state}
 use Rattle.pli_coding.specs.Environments.{Environment}
 use Rattle.activation_relation.specs.Layers.{Point, services_of}
-use Rattle.run_steps.specs.Reach.{Comes, never}
+use Rattle.run_steps.specs.Reach.{Comes}
 use Rattle.program_runs.specs.Calls.{AreMade, Callee, IsCallee, block_at, body_index, labels_of, left_over}
 use Rattle.program_runs.specs.Procedures.{Procedure, HasRoom, block_of}
-use Rattle.program_runs.specs.Starts.{Image, IsStart, surroundings_of, start_point, first_family, call_index}
+use Rattle.program_runs.specs.Starts.{Image, IsStart, surroundings_of, start_point, first_family, call_index, never_in}
 use Rattle.program_runs.specs.Starts.{no_numbers}
 use Rattle.program_runs.specs.Statements.{EachDoes, IsBegun}
 
@@ -61,4 +61,4 @@ ProgramsRun =
     EachDoes (block_at (surroundings_of k.image) k.image.code (main_of k) (start_point k.image) no_numbers)
     (labels_of (main_of k)) k.main.body (body_index (main_of k)) left_over) →
     Comes k.image.code 0 (first_family first (services_of (start_point k.image))) (services_of (start_point k.image))
-    never (run k.program (suc k.image.acts) k.image.acts (first_state k.image.input))
+    (never_in k.image) (run k.program (suc k.image.acts) k.image.acts (first_state k.image.input))

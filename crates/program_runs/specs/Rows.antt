@@ -14,10 +14,10 @@ use Rattle.pli_coding.specs.Procedures.{procedure_environment}
 use Rattle.pli_coding.specs.Statements.{stmts_code}
 use Rattle.storage_relation.specs.Versions.{no_constants}
 use Rattle.activation_relation.specs.Layers.{services_of}
-use Rattle.run_steps.specs.Reach.{Comes, never}
+use Rattle.run_steps.specs.Reach.{Comes}
 use Rattle.program_runs.specs.Procedures.{Procedure, block_of, begin_of, procedure_code}
 use Rattle.program_runs.specs.Programs.{Whole}
-use Rattle.program_runs.specs.Starts.{Image, image_parts, start_of, start_point, first_family}
+use Rattle.program_runs.specs.Starts.{Image, image_parts, start_of, start_point, first_family, never_in}
 
 -- ---- the program: MAIN calls P and does nothing more; P does nothing, and returns
 
@@ -106,7 +106,7 @@ pub record ProgramRan : Type 0 where
   pub runs :
       (input first : List ℕ) (acts : ℕ) → acts + 1 < 2 ^ 64 → length first ≡ memory_size →
       Comes (linked_code row_code) 0 (first_family first (services_of (start_point (row_image input acts))))
-      (services_of (start_point (row_image input acts))) never
+      (services_of (start_point (row_image input acts))) (never_in (row_image input acts))
       (run row_program (suc acts) acts (first_state input))
   -- that is the code of both procedures behind the start and the raises
   pub code : row_code ≡ start_of 0 ++ (raise_code ++ (coded_of row_main ++ coded_of row_inner))

@@ -22,8 +22,8 @@ use Rattle.activation_relation.specs.Points.{Surroundings, Stands}
 use Rattle.activation_relation.specs.Rows.{first_point}
 use Rattle.run_steps.specs.Engine.{address}
 use Rattle.run_steps.specs.Items.{Linked}
-use Rattle.run_steps.specs.Reach.{Family, Reach}
-use Rattle.block_runs.specs.Machines.{IsImage, IsIn}
+use Rattle.run_steps.specs.Reach.{Family, Reach, Aims, never}
+use Rattle.block_runs.specs.Machines.{IsImage, IsIn, limits_of}
 
 -- ---- its code
 
@@ -49,7 +49,7 @@ finish_index = 15
 -- ---- its first moment
 
 -- a program's image in a run: its code, its signatures, the bytes that are told of its static data, the signatures that
--- a run may fill in, the input, how many acts are allowed, and how many serials may come for each
+-- a run may fill in, the input, how many acts are allowed, and how many serials may come between two
 pub record Image : Type 0 where
   pub code : List Instr
   pub links : Links
@@ -70,6 +70,10 @@ surroundings_of i =
       acts = i.acts;
       serials = i.serials;
     }
+
+-- a run that is never left but by a pause or its end
+abbrev pub never_in : {R : Type 0} → Image → Aims R
+never_in i = never (limits_of (surroundings_of i))
 
 abbrev pub start_point : Image → Point
 start_point i =

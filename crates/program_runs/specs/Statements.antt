@@ -23,7 +23,7 @@ use Rattle.run_steps.specs.Items.{Linked}
 use Rattle.run_steps.specs.Reach.{Family, Reach, Aims, Comes, cost}
 use Rattle.block_runs.specs.Beginnings.{Beginning}
 use Rattle.block_runs.specs.Bodies.{Called, AtEnd, Function}
-use Rattle.block_runs.specs.Machines.{IsImage, IsIn, AreIn}
+use Rattle.block_runs.specs.Machines.{IsImage, IsIn, AreIn, limits_of}
 
 -- ---- where they run
 
@@ -215,6 +215,7 @@ pub record ReturnsTo (k : Block) (left' credits : ℕ) (f : Family) (v : Service
 abbrev pub statement_aims : Block → List Label → (acts index wanted left' : ℕ) → Aims (Unit {0})
 statement_aims k labels acts index wanted left' =
     record {
+      limits = limits_of k.call.surroundings;
       done = λ c f v r s. GoesOn k acts index wanted c f v s;
       jumped = λ c f v height label s. JumpsTo k labels acts c f v height label s;
       returned = λ c f v r s. ReturnsTo k left' c f v r s;

@@ -14,10 +14,10 @@ use Rattle.pli_coding.specs.Procedures.{procedure_environment}
 use Rattle.pli_coding.specs.SignatureTable.{table_of}
 use Rattle.storage_relation.specs.Versions.{no_constants}
 use Rattle.activation_relation.specs.Layers.{services_of}
-use Rattle.run_steps.specs.Reach.{Comes, never}
+use Rattle.run_steps.specs.Reach.{Comes}
 use Rattle.program_runs.specs.Procedures.{Procedure, procedure_code}
 use Rattle.program_runs.specs.Rows.{row_head}
-use Rattle.program_runs.specs.Starts.{Image, image_parts, start_of, start_point, first_family}
+use Rattle.program_runs.specs.Starts.{Image, image_parts, start_of, start_point, first_family, never_in}
 use Rattle.program_runs.specs.Variables.{Declared}
 
 -- ---- the program: DECLARE X FIXED BINARY(31); and a null statement
@@ -90,5 +90,5 @@ pub record NumberRan : Type 0 where
   pub runs :
       (input first : List ℕ) (acts : ℕ) → acts + 1 < 2 ^ 64 → length first ≡ memory_size →
       Comes (linked_code number_code) 0 (first_family first (services_of (start_point (number_image input acts))))
-      (services_of (start_point (number_image input acts))) never
+      (services_of (start_point (number_image input acts))) (never_in (number_image input acts))
       (run number_program (suc acts) acts (first_state input))

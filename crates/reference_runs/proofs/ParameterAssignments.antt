@@ -254,7 +254,8 @@ stored_goes words k labels x source line index left' need most h acts wanted deb
     subst (λ flow. Comes code y.wanted g (services_of p) (owing code debt aims) flow)
     (sym (assigned_is around' w.acts z n.holds))
     (record {
-      to = done_owing (statement_closed k labels acts i wanted left') debt wanted paid r tt (behind_assigned p a).state
+      to = λ early.
+          done_owing (statement_closed k labels acts i wanted left') debt wanted paid r tt (behind_assigned p a).state
           (λ g' at'. goes_here acts wanted g' (omega (arith, since, more)) (assigned_among a o')
           (λ b. subst (λ j. IsIn w (behind_assigned p a) (held_after q.numbers 0 (word z)) j b (g' b)) end (at' b)));
     })))
@@ -307,12 +308,12 @@ assign_with words k labels x source line index left' need most h ev p numbers c 
     comes_on w.acts (source' w.acts p'.state) (λ v. put_in k x line v)
     (comes_on w.acts flow fit
     (comes_map (number_aims k labels y)
-    (before code (before code owed w.acts (λ v. put_in k x line v)) w.acts fit) flow
+    (before code (before code owed w.acts (λ v. put_in k x line v)) w.acts fit) refl flow
     (λ c' f' v' z s q.
     subst (Comes code c' f' v' (before code owed w.acts (λ v. put_in k x line v)))
     (sym (fit_is around' z w.acts s q.0))
     (record {
-      to = stored_goes words k labels x source line index left' need most h acts wanted debt
+      to = λ early. stored_goes words k labels x source line index left' need most h acts wanted debt
           (index + size_with words k stmt) c' f' v' z s y (omega arith) q.0 q.1 (omega (arith, n2, n3)) (omega (arith, n0, n1, n2, n3))
           (linked_at (index + size_of one + size_of value') puts (omega (arith, n2)) ls);
     }))

@@ -25,7 +25,7 @@ use Rattle.storage_relation.specs.Served.{Holds}
 use Rattle.storage_relation.proofs.Making.{same_held}
 use Rattle.activation_relation.specs.Frames.{FramesStand, frame_under, lower_end, word_place}
 use Rattle.activation_relation.specs.Layers.{now, services_of}
-use Rattle.activation_relation.specs.Points.{AreFew, Stands}
+use Rattle.activation_relation.specs.Points.{AreFew, Stands, IsEarly}
 use Rattle.activation_relation.specs.Remaining.{Remains}
 use Rattle.activation_relation.proofs.FrameWords.{words_covered}
 use Rattle.activation_relation.proofs.Remaining.{remains_acted, remains_entered, remains_then}
@@ -73,6 +73,7 @@ use Rattle.reference_runs.specs.Receivers.{body_index, bound_point, called_of, c
 use Rattle.reference_runs.specs.Receivers.{giving_of, layer_of, listed_layer, receiving_code, reference_block}
 use Rattle.reference_runs.specs.Receivers.{variables_index}
 use Rattle.reference_runs.specs.References.{referred_waits}
+use Rattle.block_runs.proofs.Early.{comes_early}
 
 -- ---- where it is called
 
@@ -446,9 +447,10 @@ made_known :
 made_known h = h.made.stands (bound_known h)
 
 pub first_among :
-    {y : ReferenceCall} (h : Here y) → (y.callee.made (bound_point y)).state.world.acts < y.surroundings.acts →
+    {y : ReferenceCall} (h : Here y) → IsEarly y.surroundings y.point →
+    (y.callee.made (bound_point y)).state.world.acts < y.surroundings.acts →
     IsAmong (reference_block y) y.numbers (reference_block y).first
-first_among {y} h less =
+first_among {y} h early less =
     let w = y.surroundings in
     let known = stands_acted y.callee.procedure.head.line (made_known h).0 (made_known h).1 less in
     let acts = ap (λ (x : World). x.acts) h.made.world in
@@ -457,7 +459,7 @@ first_among {y} h less =
       stands = known.0;
       image = known.1;
       later = later_same (reference_block y).first;
-      few = few_made w y.point (reference_block y).first h.few (omega (arith, few)) (omega (arith, acts));
+      few = few_made w y.point (reference_block y).first early (omega (arith, few)) (omega (arith, acts, less));
       entries = refl;
       others = λ n more. refl;
       words = h.words;
@@ -541,7 +543,7 @@ body_goes y callee f b o each few there =
     let inside = l.inside in
     let flow = M.list k.around x.body y.surroundings.acts k.first.state in
     let acts = k.first.state.world.acts in
-    comes_map (statement_aims k [] acts c.calling.end left_over left_over) (body_aims k.call left_over) flow
+    comes_map (statement_aims k [] acts c.calling.end left_over left_over) (body_aims k.call left_over) refl flow
     (λ c' f' v' r s q. at_end b refl (omega arith) q)
     (λ c' f' v' height label s q. no_jump refl q)
     (λ c' f' v' r s q. q.to)
@@ -582,7 +584,9 @@ reference_comes {y} credits wanted f h each few paid there gives =
     let acts = ap (λ (u : World). u.acts) h.made.world in
     subst (λ flow. Comes y.code credits f (services_of (given_point y)) (behind_aims k wanted) flow)
     (sym (run_means c.around x.head x.body (entry_of y) w.acts y.point.state h.callee.kind h.room.shallow))
-    (list_calls_return k (giving_of y) (M.block_body around' x.head x.body (entry_of y)) credits left_over
+    (comes_early w refl there
+    (λ early.
+    list_calls_return k (giving_of y) (M.block_body around' x.head x.body (entry_of y)) credits left_over
     wanted f (is_giving h)
     (λ g at.
     subst (λ flow. Comes y.code c0 g (services_of start) (body_aims k left_over) flow)
@@ -595,6 +599,6 @@ reference_comes {y} credits wanted f h each few paid there gives =
     (act_comes (before_closed w.acts next' closed) x.head.line c2 0 g' (made_known h)
     (h.callee.coded.line, h.callee.acts, omega (arith, total, paid)) parts.act at'
     (λ g'' less at''.
-    let o = first_among h less in
+    let o = first_among h early less in
     let b = first_begun h o.stands in
-    body_goes y h.callee g'' b o (each b) (omega (arith, few, acts)) at'')))))) there gives)
+    body_goes y h.callee g'' b o (each b) (omega (arith, few, acts)) at'')))))) there gives))

@@ -314,8 +314,8 @@ given_goes {k} {c} {x} {r} {φ} {φs} {line} {index} {numbers = numbers} {p = p}
     (references_come w code p φ φs r numbers credits i f (o.stands, o.image) (referred_among h.named.referred o)
     (front_of given' (calling c) l) there)
     (λ g' there'.
-    comes_map (behind_aims (called_of y) wanted) aims' flow
-    (λ c1 f1 v1 u t e. record { to = behind_goes h o (omega (arith, since)) e })
+    comes_map (behind_aims (called_of y) wanted) aims' refl flow
+    (λ c1 f1 v1 u t e. record { to = λ early. behind_goes h o (omega (arith, since)) e })
     (λ c1 f1 v1 height label t e. absurd e)
     (λ c1 f1 v1 u t e. absurd e)
     (reference_comes (credits + size_of given') wanted g' (here_among h made o) (each p numbers o)

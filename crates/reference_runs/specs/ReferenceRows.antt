@@ -18,10 +18,10 @@ use Rattle.pli_coding.specs.SignatureTable.{table_of}
 use Rattle.pli_coding.specs.Statements.{block_held, block_words}
 use Rattle.storage_relation.specs.Versions.{no_constants}
 use Rattle.activation_relation.specs.Layers.{services_of}
-use Rattle.run_steps.specs.Reach.{Comes, never}
+use Rattle.run_steps.specs.Reach.{Comes}
 use Rattle.program_runs.specs.Procedures.{Procedure, procedure_code}
 use Rattle.program_runs.specs.Rows.{row_head}
-use Rattle.program_runs.specs.Starts.{Image, first_family, image_parts, start_of, start_point}
+use Rattle.program_runs.specs.Starts.{Image, first_family, image_parts, start_of, start_point, never_in}
 use Rattle.expression_runs.specs.Assignments.{assignment}
 use Rattle.expression_runs.specs.Variables.{Spot, number_declared, whole}
 use Rattle.argument_runs.specs.Parameters.{parameter, parameter_declared}
@@ -142,7 +142,7 @@ pub record ReferenceRan : Type 0 where
   pub runs :
       (input first : List ℕ) (acts : ℕ) → acts + 1 < 2 ^ 64 → length first ≡ memory_size →
       Comes (linked_code passed_code) 0 (first_family first (services_of (start_point (passed_image input acts))))
-      (services_of (start_point (passed_image input acts))) never
+      (services_of (start_point (passed_image input acts))) (never_in (passed_image input acts))
       (run passed_program (suc acts) acts (first_state input))
   -- that ends in the second call, since 2 ^ 31 has more than 31 bits
   pub ends :

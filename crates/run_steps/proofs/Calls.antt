@@ -32,8 +32,8 @@ act_by : {code : List Instr} {c : ℕ} {f : Family} {v : Services} {aims : Aims 
     (s : State) (t : Bool) → v.world ≡ s.world → Pausing code c f v v →
     (t ≡ true → aims.done c f v tt (with_world (change s.world) s)) →
     Comes code c f v aims (cond t (Normal tt (with_world (change s.world) s)) (Paused s))
-act_by {v = v} change s true e p go = record { to = go refl }
-act_by {v = v} change s false e p go = record { to = (v, e, p) }
+act_by {v = v} change s true e p go = record { to = λ early. go refl }
+act_by {v = v} change s false e p go = record { to = λ early. (v, e, p) }
 
 -- an act is carried out, or the run pauses before it
 pub comes_act : {code : List Instr} {c : ℕ} {f : Family} {v : Services} {aims : Aims (Unit {0})}
@@ -45,8 +45,8 @@ comes_act change k s e p go = act_by change s (nat_lt s.world.acts k) e p (λ t.
 finish_by : {R : Type 0} {code : List Instr} {c : ℕ} {f : Family} {v : Services} (v' : Services) {aims : Aims R}
     (end : End) (s : State) (t : Bool) → v.world ≡ s.world → v'.world ≡ ending end s.world → Pausing code c f v v →
     Ending code c f v v' → Comes code c f v aims (cond t (F.Ended (with_world (ending end s.world) s)) (Paused s))
-finish_by {v = v} v' end s true e e' p g = record { to = (v', e', g) }
-finish_by {v = v} v' end s false e e' p g = record { to = (v, e, p) }
+finish_by {v = v} v' end s true e e' p g = record { to = λ early. (v', e', g) }
+finish_by {v = v} v' end s false e e' p g = record { to = λ early. (v, e, p) }
 
 -- the run ends, or pauses before its end
 pub comes_finish : {R : Type 0} {code : List Instr} {c : ℕ} {f : Family} {v : Services}

@@ -26,12 +26,15 @@ few_acts (inl e) = let same = ap (λ (x : World). x.acts) e in omega (arith, sam
 few_acts (inr e) = omega (arith, e)
 
 answer_counts : (w : Whole) (a : Answer) → CountsOnce w.services a → RunCountsWithin 1 w.services (answered w.machine a)
-answer_counts w (Done v m x y) h = let few = h.1 in (few_acts h.0, omega (arith, few))
+answer_counts w (Done v m x y) h =
+    let few = h.1 in
+    let both = h.2 in
+    (few_acts h.0, omega (arith, few), omega (arith, both))
 answer_counts w (Ends v) h = omega (arith, h)
 answer_counts w Bad h = tt
 
 effect_counts : (p : Loaded) (w : Whole) (e : Effect) → RunCountsWithin 1 w.services (of_effect p w e)
-effect_counts p w (Goes s) = (omega arith, omega arith)
+effect_counts p w (Goes s) = (omega arith, omega arith, omega arith)
 effect_counts p w (Faults fault) = tt
 effect_counts p w Calls =
     answer_counts w (called p w)
@@ -40,11 +43,17 @@ effect_counts p w Calls =
 -- one instruction and so many behind it
 counts_on : (n : ℕ) (u v v' : Services) → CountsWithin 1 u v → CountsWithin n v v' → CountsWithin (suc n) u v'
 counts_on n u v v' h i =
-    let a = h.0 in let b = h.1 in let c = i.0 in let d = i.1 in (omega (arith, a, c), omega (arith, b, d))
+    let a = h.0 in
+    let b = h.1 in
+    let both = h.2 in
+    let c = i.0 in
+    let d = i.1 in
+    let all = i.2 in
+    (omega (arith, a, c), omega (arith, b, d), omega (arith, both, all))
 
 pub runs_count_within : RunsCountWithin
 unfolding run_on
-runs_count_within zero p w = (omega arith, omega arith)
+runs_count_within zero p w = (omega arith, omega arith, omega arith)
 runs_count_within (suc n) p w =
     behind n p w (next p w) (effect_counts p w (effect p w.machine)) (λ u. runs_count_within n p u)
   where

@@ -12,7 +12,7 @@ use Rattle.run_steps.proofs.Engine.{run_on-ended, run_on-stopped}
 use Rattle.run_steps.specs.Showing.{Shows}
 use Rattle.run_steps.specs.Growing.{After, Grows}
 
-served_shows : (code : List Instr) (w : Whole) → Shows w.services (served code w)
+pub served_shows : (code : List Instr) (w : Whole) → Shows w.services (served code w)
 unfolding served
 served_shows code w = unlimited_shows (call_at code w.services w.machine.memory) w.machine.registers
 

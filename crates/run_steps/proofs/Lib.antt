@@ -3,6 +3,7 @@ pub mod Engine
 pub mod Showing
 pub mod Growing
 pub mod Counting
+pub mod Giving
 pub mod Reach
 pub mod Owing
 pub mod Linking

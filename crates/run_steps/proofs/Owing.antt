@@ -63,22 +63,25 @@ reach_less debt r =
 pub comes_owing : {R : Type 0} {code : List Instr} {i : ℕ} {f : Family} {v : Services} {aims : Aims R} (debt : ℕ)
     (flow : Flow R) → Comes code (i + debt) f v (owing code debt aims) flow → Comes code i f v aims flow
 comes_owing {code = code} {i = i} {f = f} {v = v} debt
-    (Normal x s) c = record { to = c.to i f v (between_same code (i + debt) f v) }
+    (Normal x s) c = record { to = λ early. c.to early i f v (between_same code (i + debt) f v) }
 comes_owing {code = code} {i = i} {f = f} {v = v} debt
-    (Jump height label s) c = record { to = c.to i f v (between_same code (i + debt) f v) }
+    (Jump height label s) c = record { to = λ early. c.to early i f v (between_same code (i + debt) f v) }
 comes_owing {code = code} {i = i} {f = f} {v = v} debt
-    (Return x s) c = record { to = c.to i f v (between_same code (i + debt) f v) }
+    (Return x s) c = record { to = λ early. c.to early i f v (between_same code (i + debt) f v) }
 comes_owing debt (F.Ended s) c =
-    let e = c.to.2 in
-    record { to = (c.to.0, c.to.1, record { count = e.count; over = e.over; goes = e.goes }) }
-comes_owing debt (Paused s) c =
-    let p = c.to.2 in
     record {
-      to = (
-        c.to.0,
-        c.to.1,
-        record { at = p.at; inside = p.inside; running = p.running; to = reach_less debt p.to },
-      );
+      to = λ early.
+          let e = (c.to early).2 in
+          ((c.to early).0, (c.to early).1, record { count = e.count; over = e.over; goes = e.goes });
+    }
+comes_owing debt (Paused s) c =
+    record {
+      to = λ early.
+          let p = (c.to early).2 in (
+            (c.to early).0,
+            (c.to early).1,
+            record { at = p.at; inside = p.inside; running = p.running; to = reach_less debt p.to },
+          );
     }
 comes_owing debt Stuck c = record { to = c.to }
 

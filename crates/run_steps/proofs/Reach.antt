@@ -9,7 +9,10 @@ use Rattle.image_runs.specs.Runs.{Whole, Runs, Ended}
 use Rattle.run_steps.specs.Unlimited.{run_on}
 use Rattle.run_steps.specs.Engine.{Base, at_base}
 use Rattle.run_steps.proofs.Engine.{run_on-add}
-use Rattle.run_steps.specs.Reach.{Family, Reach, reached, Pausing, Ending, Aims, never, ComesTo, Comes, Closed, before}
+use Rattle.run_steps.specs.Giving.{Limits}
+use Rattle.run_steps.specs.Reach.{Family, Reach, reached, Pausing, Ending, Aims, never, ComesTo, Comes, Closed}
+use Rattle.run_steps.specs.Reach.{GiveFew, before}
+use Rattle.run_steps.proofs.Giving.{give_later}
 
 pub reached_holds : {code : List Instr} {i : ℕ} {f : Family} {v : Services} {i' : ℕ} {v' : Services}
     {Q : Base → Whole → Type 0} (r : Reach code i f v i' v' Q) (b : Base) → Q b (reached r b)
@@ -62,8 +65,8 @@ ending_then {code} {i} {f} r e =
       };
     }
 
-pub never_closed : {R : Type 0} (code : List Instr) → Closed {R = R} code never
-never_closed code =
+pub never_closed : {R : Type 0} (code : List Instr) (limits : Limits) → Closed {R = R} code (never limits)
+never_closed code limits =
     record { done = λ r x s a. absurd a; jumped = λ r height label s a. absurd a; returned = λ r x s a. absurd a }
 
 -- a flow that comes from a place which is reached
@@ -80,7 +83,8 @@ comes_to_from closed Stuck r c = c
 pub comes_from : {R : Type 0} {code : List Instr} {i : ℕ} {f : Family} {v : Services} {i' : ℕ} {v' : Services}
     {Q : Base → Whole → Type 0} {aims : Aims R} {flow : Flow R} (closed : Closed code aims)
     (r : Reach code i f v i' v' Q) → Comes code i' (reached r) v' aims flow → Comes code i f v aims flow
-comes_from {flow = flow} closed r c = record { to = comes_to_from closed flow r c.to }
+comes_from {aims = aims} {flow = flow} closed r c =
+    record { to = λ early. comes_to_from closed flow r (c.to (give_later aims.limits r early)) }
 
 -- the same, from any machine of which holds what is reached
 pub onward : {R : Type 0} {code : List Instr} {i : ℕ} {f : Family} {v : Services} {i' : ℕ} {v' : Services}
@@ -96,19 +100,19 @@ before_closed k next' closed =
 
 comes_to_on : {Q R : Type 0} (code : List Instr) (i : ℕ) (f : Family) (v : Services) (aims : Aims R) (k : ℕ)
     (flow : Flow Q) (next' : Q → Meaning R) → ComesTo code i f v (before code aims k next') flow →
-    ComesTo code i f v aims (flow_on k flow next')
-comes_to_on code i f v aims k (Normal q s) next' c = c.to
-comes_to_on code i f v aims k (Jump height label s) next' c = c
-comes_to_on code i f v aims k (Return r s) next' c = c
-comes_to_on code i f v aims k (F.Ended s) next' c = c
-comes_to_on code i f v aims k (Paused s) next' c = c
-comes_to_on code i f v aims k Stuck next' c = c
+    GiveFew code aims.limits f → ComesTo code i f v aims (flow_on k flow next')
+comes_to_on code i f v aims k (Normal q s) next' c early = c.to early
+comes_to_on code i f v aims k (Jump height label s) next' c early = c
+comes_to_on code i f v aims k (Return r s) next' c early = c
+comes_to_on code i f v aims k (F.Ended s) next' c early = c
+comes_to_on code i f v aims k (Paused s) next' c early = c
+comes_to_on code i f v aims k Stuck next' c early = c
 
 pub comes_on : {Q R : Type 0} {code : List Instr} {i : ℕ} {f : Family} {v : Services} {aims : Aims R} (k : ℕ)
     (flow : Flow Q) (next' : Q → Meaning R) → Comes code i f v (before code aims k next') flow →
     Comes code i f v aims (flow_on k flow next')
 comes_on {code = code} {i = i} {f = f} {v = v} {aims = aims} k flow next' c =
-    record { to = comes_to_on code i f v aims k flow next' c.to }
+    record { to = λ early. comes_to_on code i f v aims k flow next' (c.to early) early }
 
 -- less holds
 pub reach_map : {code : List Instr} {i : ℕ} {f : Family} {v : Services} {i' : ℕ} {v' : Services}

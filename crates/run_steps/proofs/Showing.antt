@@ -8,6 +8,7 @@ use Rattle.pli_typing.specs.Signatures as G
 use Rattle.pli_typing.specs.Signatures.{LeafKind}
 use Rattle.pli_language.specs.declared.condition.Condition.{Condition}
 use Rattle.pli_meaning.specs.BasicValues as B
+use Rattle.pli_meaning.specs.World.{World}
 use Rattle.pli_meaning.specs.Contents as C
 use Rattle.pli_meaning.specs.StreamOrder.{Element}
 use Rattle.pli_meaning.specs.Streaming as F
@@ -50,7 +51,9 @@ stays = omega arith
 
 pub quiet : {v v' : Services} {m : List ℕ} {x y : ℕ} → v'.world ≡ v.world → v'.serials ≤ suc v.serials →
     Shows v (Done v' m x y)
-quiet e few = record { is = (inl e, few) }
+quiet e few =
+    let same = ap (λ (w : World). w.acts) e in
+    record { is = (inl e, few, omega (arith, same, few)) }
 
 acts : {v v' : Services} {m : List ℕ} {x y : ℕ} → v'.world.acts ≡ v.world.acts + 1 → v'.serials ≡ v.serials →
     Acts v (Done v' m x y)
@@ -77,7 +80,7 @@ one n = omega arith
 
 acts_show : {v : Services} {a : Answer} → Acts v a → Shows v a
 acts_show {a = Done v' m x y} h = let e = h.is.0 in let same = h.is.1
-    in record { is = (inr (omega (arith, e)), omega (arith, same)) }
+    in record { is = (inr (omega (arith, e)), omega (arith, same), omega (arith, e, same)) }
 acts_show {a = Ends v'} h = let e = h.is in record { is = omega (arith, e) }
 acts_show {a = Bad} h = record { is = tt }
 

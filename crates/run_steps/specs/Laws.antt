@@ -9,8 +9,9 @@ use Rattle.image_runs.specs.Runs as R
 use Rattle.image_runs.specs.Runs.{Whole, Runs}
 use Rattle.run_steps.specs.Unlimited.{run_on}
 use Rattle.run_steps.specs.Engine.{Base, HasAt, Path, Passed, address, most_code}
+use Rattle.run_steps.specs.Giving.{Limits, GivesFew}
 use Rattle.run_steps.specs.Growing.{Grows}
-use Rattle.run_steps.specs.Reach.{Family, Reach, reached}
+use Rattle.run_steps.specs.Reach.{Family, GiveFew, Reach, reached}
 use Rattle.run_steps.specs.Owing.{Between}
 use Rattle.run_steps.specs.Linking.{HasItems}
 use Rattle.run_steps.specs.Items.{Items, Linked, At}
@@ -55,6 +56,18 @@ RunsGrow = (n : ℕ) (p : Loaded) (w : Whole) → Grows n w (run_on n p (Runs w)
 abbrev pub RunsLimited : Type 0
 RunsLimited =
     (n : ℕ) (p : Loaded) (w : Whole) → w.services.serials + n < 2 ^ 64 → run_on n p (Runs w) ≡ R.run_on n p (Runs w)
+
+-- ---- serials
+
+pub record SerialsGiven : Type 0 where
+  -- an instruction makes an act, or gives one serial at most
+  pub counted :
+      (n : ℕ) (p : Loaded) (w x : Whole) → run_on n p (Runs w) ≡ Runs x →
+      x.services.serials + x.services.world.acts ≤ w.services.serials + w.services.world.acts + n
+  -- what is reached lies on the same run
+  pub reached :
+      (code : List Instr) (limits : Limits) (i i' : ℕ) (f : Family) (v v' : Services) (test : BaseTest)
+      (r : Reach code i f v i' v' (at_bases test)) → GiveFew code limits f → GiveFew code limits (reached r)
 
 -- ---- stretches
 

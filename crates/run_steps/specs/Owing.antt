@@ -21,6 +21,7 @@ pub record Between (code : List Instr) (i : ℕ) (f : Family) (v : Services) (i'
 abbrev pub owing : {R : Type 0} → List Instr → (debt : ℕ) → Aims R → Aims R
 owing code debt aims =
     record {
+      limits = aims.limits;
       done = λ i f v x s. (i0 : ℕ) (f0 : Family) (v0 : Services) → Between code (i0 + debt) f0 v0 i f v →
           aims.done i0 f0 v0 x s;
       jumped = λ i f v height label s. (i0 : ℕ) (f0 : Family) (v0 : Services) → Between code (i0 + debt) f0 v0 i f v →

@@ -11,6 +11,7 @@ use Rattle.pli_meaning.specs.Control.{Flow, Normal, Jump, Return, Paused, Stuck,
 use Rattle.image_runs.specs.Runs.{Whole, Run, Runs, Ended, Stopped}
 use Rattle.run_steps.specs.Unlimited.{next, run_on}
 use Rattle.run_steps.specs.Engine.{Base, at_base}
+use Rattle.run_steps.specs.Giving.{GivesFew, Limits}
 
 -- a machine with its services at each base
 abbrev pub Family : Type 0
@@ -73,15 +74,22 @@ pub record Ending (code : List Instr) (i : ℕ) (f : Family) (v : Services) (v' 
 -- ---- flows
 
 -- where a part's code leads, as what holds of credits, machines and services: behind it with a result, and where a
--- jump or a return goes on
+-- jump or a return goes on; and how many serials the run gives before its last act
 pub record Aims (R : Type 0) : Type 1 where
+  pub limits : Limits
   pub done : ℕ → Family → Services → R → State → Type 0
   pub jumped : ℕ → Family → Services → (height : ℕ) → Label → State → Type 0
   pub returned : ℕ → Family → Services → Option BasicValue → State → Type 0
 
 -- a part that is never left but by a pause or the end of the run
-abbrev pub never : {R : Type 0} → Aims R
-never = record { done = λ c f v r s. ⊥; jumped = λ c f v height label s. ⊥; returned = λ c f v r s. ⊥ }
+abbrev pub never : {R : Type 0} → Limits → Aims R
+never limits =
+    record {
+      limits = limits;
+      done = λ c f v r s. ⊥;
+      jumped = λ c f v height label s. ⊥;
+      returned = λ c f v r s. ⊥;
+    }
 
 -- what a flow of the meaning comes to in a run
 abbrev pub ComesTo : {R : Type 0} → List Instr → ℕ → Family → Services → Aims R → Flow R → Type 0
@@ -92,9 +100,13 @@ ComesTo code i f v aims (F.Ended s) = (v' : Services) × (v'.world ≡ s.world) 
 ComesTo code i f v aims (Paused s) = (v' : Services) × (v'.world ≡ s.world) × Pausing code i f v v'
 ComesTo code i f v aims Stuck = ⊥
 
+-- no more serials come before the last act than the limit
+abbrev pub GiveFew : List Instr → Limits → Family → Type 0
+GiveFew code limits f = (b : Base) → GivesFew code limits b (f b)
+
 pub record Comes {R : Type 0} (code : List Instr) (i : ℕ) (f : Family) (v : Services) (aims : Aims R)
     (flow : Flow R) : Type 0 where
-  pub to : ComesTo code i f v aims flow
+  pub to : GiveFew code aims.limits f → ComesTo code i f v aims flow
 
 -- what is aimed at may be reached later
 pub record Closed {R : Type 0} (code : List Instr) (aims : Aims R) : Type 1 where
@@ -110,4 +122,9 @@ pub record Closed {R : Type 0} (code : List Instr) (aims : Aims R) : Type 1 wher
 -- a part whose result another part goes on with
 abbrev pub before : {Q R : Type 0} → List Instr → Aims R → ℕ → (Q → Meaning R) → Aims Q
 before code aims k next' =
-    record { done = λ i f v q s. Comes code i f v aims (next' q k s); jumped = aims.jumped; returned = aims.returned }
+    record {
+      limits = aims.limits;
+      done = λ i f v q s. Comes code i f v aims (next' q k s);
+      jumped = aims.jumped;
+      returned = aims.returned;
+    }

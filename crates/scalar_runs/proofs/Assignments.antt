@@ -133,7 +133,8 @@ stored_goes k labels x type line left' begun is numeric acts wanted debt i c' f'
     subst (λ flow. Comes code y.wanted g (services_of p) (owing code debt aims) flow)
     (sym (assigned_is around' w.acts v (kind_worded type numeric) n.holds))
     (record {
-      to = done_owing (statement_closed k labels acts i wanted left') debt wanted paid r tt (behind_assigned n v).state
+      to = λ early.
+          done_owing (statement_closed k labels acts i wanted left') debt wanted paid r tt (behind_assigned n v).state
           (λ g' at'. goes_here acts wanted g' (omega (arith, since, more)) (assigned_among n v q.among)
           (λ b. subst (λ j. IsIn w (behind_assigned n v) q.numbers j b (g' b)) end (at' b)));
     })))
@@ -192,7 +193,7 @@ assign_by words k labels x type source line index left' need most h is numeric f
     let o' = acted_among line o less in
     let y = behind p' numbers 0 0 (index + size_of one) value' in
     comes_on w.acts (meant w.acts p'.state) put'
-    (comes_map (value_aims word_in fits k labels y) (before code owed w.acts put') (meant w.acts p'.state)
+    (comes_map (value_aims word_in fits k labels y) (before code owed w.acts put') refl (meant w.acts p'.state)
     (λ c' f' v' v s q.
     stored_goes k labels x type line left' h.begun is numeric acts wanted debt (index + size_with words k stmt) c' f' v'
     v s y (omega arith) (kept v q.0) q.1 (omega (arith, n2)) (omega (arith, n0, n1, n2)) ls)
@@ -251,8 +252,8 @@ number_leaves k need precision x does p numbers taken c index f o line registers
     subst (λ u. Comes code c f (services_of p) goal u)
     (then_given (V.number k.around x w.acts p.state) (λ z. R.value_of k.around (checked precision z)) w.acts)
     (comes_on w.acts flow last
-    (comes_map (fitted_aims k.block k.labels precision y) (before code goal w.acts last) flow
-    (λ c' f' v' z s q. record { to = ((z, refl, q.0), q.1) })
+    (comes_map (fitted_aims k.block k.labels precision y) (before code goal w.acts last) refl flow
+    (λ c' f' v' z s q. record { to = λ early. ((z, refl, q.0), q.1) })
     (λ c' f' v' height label s q. q)
     (λ c' f' v' u s q. absurd q)
     (does p numbers taken c index f o line registers l paid there)))
@@ -287,8 +288,8 @@ bit_leaves k need x does p numbers taken c index f o line registers l paid there
     let flow = V.bit k.around x w.acts p.state in
     let last : Bool → Meaning BasicValue = λ b. give (BasicBit b) in
     comes_on w.acts flow last
-    (comes_map (bit_aims k.block k.labels y) (before code goal w.acts last) flow
-    (λ c' f' v' b s q. record { to = ((b, refl), q) })
+    (comes_map (bit_aims k.block k.labels y) (before code goal w.acts last) refl flow
+    (λ c' f' v' b s q. record { to = λ early. ((b, refl), q) })
     (λ c' f' v' height label s q. q)
     (λ c' f' v' u s q. absurd q)
     (does p numbers taken c index f o line registers l paid there))

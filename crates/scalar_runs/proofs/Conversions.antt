@@ -31,9 +31,9 @@ converted_does k x m does p numbers taken c index f o line registers l paid ther
     let goal = number_aims k.block k.labels whole in
     let flow = V.bit k.around x w.acts p.state in
     comes_on w.acts flow (λ b. give (bit_number b))
-    (comes_map (bit_aims k.block k.labels whole) (before code goal w.acts (λ b. give (bit_number b))) flow
+    (comes_map (bit_aims k.block k.labels whole) (before code goal w.acts (λ b. give (bit_number b))) refl flow
     (λ c' f' v' b s q. record {
-      to = (flag_wide b, subst (λ n. HasWord k.block whole n c' f' v' s) (flag_word b) q);
+      to = λ early. (flag_wide b, subst (λ n. HasWord k.block whole n c' f' v' s) (flag_word b) q);
     })
     (λ c' f' v' height label s q. q)
     (λ c' f' v' u s q. absurd q)

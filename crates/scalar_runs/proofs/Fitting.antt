@@ -61,7 +61,7 @@ pub fitted_further :
     (precision : ℕ) → IsFurther x y → Comes k.call.code c f v (fitted_aims k labels precision x) flow →
     Comes k.call.code c f v (fitted_aims k labels precision y) flow
 fitted_further {k} {labels} {x} {y} {flow = flow} precision i o =
-    comes_map (fitted_aims k labels precision x) (fitted_aims k labels precision y) flow
+    comes_map (fitted_aims k labels precision x) (fitted_aims k labels precision y) refl flow
     (λ c f v z s q. (q.0, word_further i q.1))
     (λ c f v height label s q. jumps_since i.acts q)
     (λ c f v r s q. absurd q)
@@ -102,7 +102,7 @@ then_fits k m n need precision first last meant next' few_m few_n does cuts p nu
     let goal = fitted_aims k.block k.labels precision (behind p numbers taken c index (a ++ d)) in
     let closed = fitted_closed k.block k.labels precision (behind p numbers taken c index (a ++ d)) in
     comes_on w.acts (meant w.acts p.state) next'
-    (comes_map (number_aims k.block k.labels (behind p numbers taken c index a)) (before code goal w.acts next')
+    (comes_map (number_aims k.block k.labels (behind p numbers taken c index a)) (before code goal w.acts next') refl
     (meant w.acts p.state)
     (λ c1 f1 v1 x s1 q1.
     let o1 = q1.1 in
@@ -193,7 +193,7 @@ tested_does k over p numbers taken c index f precision x z h o line registers' c
         (sym e)
         (onward (fitted_closed k.block k.labels precision whole) reach
         (λ g at'. record {
-          to = (
+          to = λ early. (
             e,
             word_here {x = whole} h o (omega arith) refl
                 (stay k.block.call.code whole.wanted g (services_of p)
@@ -234,9 +234,9 @@ tested_does k over p numbers taken c index f precision x z h o line registers' c
         (λ g2 at2.
         comes_on acts flow next'
         (comes_map (word_aims k.block k.labels (behind p numbers taken (c + 1 + 1) (index + 1 + 1) raise') x)
-        (before k.block.call.code goal acts next') flow
+        (before k.block.call.code goal acts next') refl flow
         (λ c' f' v' u s q. record {
-          to = (
+          to = λ early. (
             wrapped_fits precision z,
             subst (λ n. HasWord k.block whole n c' f' v' s) cut
                 (word_further
@@ -348,7 +348,7 @@ all_cut k p numbers taken c index f z h o line registers' wide l paid at =
     subst (λ q. Comes k.block.call.code c f (services_of p) (fitted_aims k.block k.labels 31 whole)
     (R.value_of k.around (cond q (Gives z) (Raises C.FixedOverflow 20 (wrapped 31 z))) acts p.state)) (sym wide)
     (record {
-      to = (
+      to = λ early. (
         wide,
         word_further {x = here}
             (record {

@@ -96,7 +96,7 @@ fewer_does k over p numbers taken c index f precision x y h o line registers' le
       taken = omega arith;
       stays = λ i less'. refl;
     })
-    (comes_map (fitted_aims k.block k.labels precision here) (number_aims k.block k.labels here) flow
+    (comes_map (fitted_aims k.block k.labels precision here) (number_aims k.block k.labels here) refl flow
     (λ c' f'' v' z' s q. (fewer_bits precision 31 z' (omega (arith, less)) q.0, q.1))
     (λ c' f'' v' height label s q. q)
     (λ c' f'' v' u s q. absurd q)

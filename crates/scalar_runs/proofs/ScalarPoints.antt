@@ -231,7 +231,7 @@ number_does k x precision begun is p numbers taken c index f o line registers l 
     (number_aims k.block k.labels (behind p numbers taken c index (number_code e t (Y.NumberIn (whole x))))) flow)
     (sym (N.number_is k.around precision w.acts z n.holds first.1))
     (record {
-      to = (
+      to = λ early. (
         fewer_bits precision 31 z first.3 first.2,
         subst (λ j. HasWord k.block (at_end p numbers taken c index j) (word z) c f (services_of p) p.state) (sym size)
             (subst (λ v. HasWord k.block (at_end p numbers taken c index (size_of part)) v c f (services_of p) p.state)
@@ -267,7 +267,7 @@ bit_does k x begun is p numbers taken c index f o line registers l paid there =
     (bit_aims k.block k.labels (behind p numbers taken c index (bit_code e t (Y.BitIn (whole x))))) flow)
     (sym (N.bit_is k.around w.acts b n.holds first.1))
     (record {
-      to = subst (λ j. HasWord k.block (at_end p numbers taken c index j) (flag b) c f (services_of p) p.state)
+      to = λ early. subst (λ j. HasWord k.block (at_end p numbers taken c index j) (flag b) c f (services_of p) p.state)
           (sym size)
           (subst (λ v. HasWord k.block (at_end p numbers taken c index (size_of part)) v c f (services_of p) p.state)
           (ap word_in first.1)

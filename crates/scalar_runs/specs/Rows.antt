@@ -19,10 +19,10 @@ use Rattle.pli_coding.specs.SignatureTable.{table_of}
 use Rattle.pli_coding.specs.Statements.{block_held, block_words}
 use Rattle.storage_relation.specs.Versions.{no_constants}
 use Rattle.activation_relation.specs.Layers.{services_of}
-use Rattle.run_steps.specs.Reach.{Comes, never}
+use Rattle.run_steps.specs.Reach.{Comes}
 use Rattle.program_runs.specs.Procedures.{Procedure, procedure_code}
 use Rattle.program_runs.specs.Rows.{row_head}
-use Rattle.program_runs.specs.Starts.{Image, first_family, image_parts, start_of, start_point}
+use Rattle.program_runs.specs.Starts.{Image, first_family, image_parts, start_of, start_point, never_in}
 use Rattle.program_runs.specs.Variables.{Declared}
 use Rattle.expression_runs.specs.Variables.{Spot, whole}
 use Rattle.scalar_runs.specs.Assignments.{bit_assignment, number_assignment}
@@ -142,7 +142,7 @@ pub record BrimRan : Type 0 where
   pub runs :
       (input first : List ℕ) (acts : ℕ) → acts + 1 < 2 ^ 64 → length first ≡ memory_size →
       Comes (linked_code brim_code) 0 (first_family first (services_of (start_point (brim_image input acts))))
-      (services_of (start_point (brim_image input acts))) never
+      (services_of (start_point (brim_image input acts))) (never_in (brim_image input acts))
       (run brim_program (suc acts) acts (first_state input))
   -- that ends in the second turn, since 32770 has more than 15 bits
   pub ends :

@@ -38,7 +38,7 @@ pub owed_from :
 owed_from {k} {labels} {acts} {more} {i} {i'} {wanted} {wanted'} {left'} {flow = flow} debt since same few o =
     let aims = statement_aims k labels acts i wanted left' in
     let code = k.call.code in
-    comes_map (statement_aims k labels more i' wanted' left') (owing code debt aims) flow
+    comes_map (statement_aims k labels more i' wanted' left') (owing code debt aims) refl flow
     (λ c f v r s q.
     let later = q.since in
     subst (λ u. (owing code debt aims).done c f v r u) (sym q.state)
@@ -58,7 +58,7 @@ pub none_owed :
 unfolding give
 none_owed k labels acts i wanted left' c debt f p numbers since few o there =
     record {
-      to = done_owing (statement_closed k labels acts i wanted left') debt wanted few
+      to = λ early. done_owing (statement_closed k labels acts i wanted left') debt wanted few
           (stay k.call.code c f (services_of p) (λ b y. IsIn k.call.surroundings p numbers i b y) there) tt p.state
           (λ g at. goes_here acts wanted g since o at);
     }

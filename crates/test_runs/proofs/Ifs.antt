@@ -73,7 +73,7 @@ met_with words k labels condition unit line index left' need most h tests does p
     let o' = acted_among line o less in
     let y = behind p' numbers 0 0 (index + size_of one) test in
     comes_on w.acts (V.bit around' condition w.acts p'.state) branch
-    (comes_map (bit_aims k labels y) (before code owed w.acts branch) (V.bit around' condition w.acts p'.state)
+    (comes_map (bit_aims k labels y) (before code owed w.acts branch) refl (V.bit around' condition w.acts p'.state)
     (λ c' f' v' met s q.
     let since = q.since in
     subst (λ u. Comes code c' f' v' owed (branch met w.acts u)) (sym q.state)
@@ -148,7 +148,7 @@ one_of_with words k labels condition unit otherwise line index left' need most h
     let o' = acted_among line o less in
     let y = behind p' numbers 0 0 (index + size_of one) test in
     comes_on w.acts (V.bit around' condition w.acts p'.state) branch
-    (comes_map (bit_aims k labels y) (before code owed w.acts branch) (V.bit around' condition w.acts p'.state)
+    (comes_map (bit_aims k labels y) (before code owed w.acts branch) refl (V.bit around' condition w.acts p'.state)
     (λ c' f' v' met s q.
     let since = q.since in
     subst (λ u. Comes code c' f' v' owed (branch met w.acts u)) (sym q.state)
@@ -159,7 +159,7 @@ one_of_with words k labels condition unit otherwise line index left' need most h
     (λ g3 at3.
     comes_map
     (statement_aims k labels q.point.state.world.acts
-    (behind_test_with words k condition (behind_act line index) + size_with words k unit) 0 left') owed
+    (behind_test_with words k condition (behind_act line index) + size_with words k unit) 0 left') owed refl
     (M.statement k.around unit w.acts q.point.state)
     (λ c3 f3 v3 r s3 q3.
     let since3 = q3.since in

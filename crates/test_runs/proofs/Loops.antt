@@ -111,7 +111,7 @@ turns_do (suc turns) words k labels condition body line index left' need most h 
     let p' = acted line p in
     let o' = acted_among line o less in
     let y = behind p' numbers 0 0 (i + size_of one) bit' in
-    comes_map (bit_aims k labels y) (before code owed w.acts branch) (V.bit around' condition w.acts p'.state)
+    comes_map (bit_aims k labels y) (before code owed w.acts branch) refl (V.bit around' condition w.acts p'.state)
     (λ c' f' v' met s q.
     let since1 = q.since in
     let p1 = q.point in
@@ -126,7 +126,7 @@ turns_do (suc turns) words k labels condition body line index left' need most h 
     let jb = i + size_of one + size_of bit' + 3 in
     comes_on w.acts (M.list k.around body w.acts p1.state) (λ u. again)
     (comes_map (statement_aims k labels p1.state.world.acts (jb + size_of part) c3 left')
-    (before code owed w.acts (λ u. again)) (M.list k.around body w.acts p1.state)
+    (before code owed w.acts (λ u. again)) refl (M.list k.around body w.acts p1.state)
     (λ c4 f4 v4 r s4 q4.
     let since4 = q4.since in
     let h4 = point_frame q4.among.stands q4.among.image in

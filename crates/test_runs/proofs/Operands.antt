@@ -16,7 +16,7 @@ use Rattle.run_steps.proofs.Jumps.{back_of, front_of}
 use Rattle.run_steps.proofs.Linking.{size_append}
 use Rattle.run_steps.specs.Reach.{Aims, Closed, Comes, Family, before, cost}
 use Rattle.run_steps.proofs.Reach.{comes_on, onward, stay}
-use Rattle.block_runs.specs.Machines.{AreIn}
+use Rattle.block_runs.specs.Machines.{AreIn, limits_of}
 use Rattle.block_runs.proofs.CallStatements.{comes_map}
 use Rattle.block_runs.proofs.PointGrounds.{in_known, point_frame, point_ground}
 use Rattle.program_runs.specs.Statements.{Block, IsAmong, JumpsTo}
@@ -33,6 +33,7 @@ use Rattle.test_runs.specs.Tests.{Decides, bit_aims}
 abbrev pub value_aims : {X : Type 0} → (X → ℕ) → (X → Type 0) → Block → List Label → Stretch → Aims X
 value_aims worded fits k labels x =
     record {
+      limits = limits_of k.call.surroundings;
       done = λ c f v z s. fits z × HasWord k x (worded z) c f v s;
       jumped = λ c f v height label s. JumpsTo k labels x.acts c f v height label s;
       returned = λ c f v r s. ⊥;
@@ -68,7 +69,7 @@ pub decided_leaves :
     Leaves flag IsBit k need part meaning
 decided_leaves k need part meaning does p numbers taken c index f o line registers l paid at =
     let x = behind p numbers taken c index (part (in_registers k.words taken)) in
-    comes_map (bit_aims k.block k.labels x) (value_aims flag IsBit k.block k.labels x)
+    comes_map (bit_aims k.block k.labels x) (value_aims flag IsBit k.block k.labels x) refl
     (meaning k.block.call.surroundings.acts p.state)
     (λ c f v z s q. (tt, q))
     (λ c f v height label s q. q)
@@ -89,7 +90,7 @@ unfolding give
 leaves_bit k p numbers taken c index f b part h o at =
     let whole = behind p numbers taken c index part in
     record {
-      to = word_here {x = whole} h o (omega arith) refl
+      to = λ early. word_here {x = whole} h o (omega arith) refl
           (stay k.block.call.code whole.wanted f (services_of p)
           (λ b0 y. At b0 whole.index (Known (point_ground k.block.call.surroundings p h) (services_of p) numbers
           (λ j. 0)
@@ -119,7 +120,7 @@ bit_further :
     IsFurther x y → Comes k.call.code c f (services_of p) (bit_aims k labels x) (give b acts p.state) →
     Comes k.call.code c f (services_of p) (bit_aims k labels y) (give b acts p.state)
 bit_further {k} {labels} {x} {y} b acts p i o =
-    comes_map (bit_aims k labels x) (bit_aims k labels y) (give b acts p.state)
+    comes_map (bit_aims k labels x) (bit_aims k labels y) refl (give b acts p.state)
     (λ c f v z s q. word_further i q)
     (λ c f v height label s q. jumps_since i.acts q)
     (λ c f v r s q. absurd q)
@@ -180,7 +181,7 @@ both_decide {X} worded fits few k m n left right last first second result el er 
     let rest : X → Meaning Bool = λ x. second >>= (λ y. next' x y) in
     comes_on w.acts (first w.acts p.state) rest
     (comes_map (value_aims worded fits k.block k.labels (behind p numbers taken c index a))
-    (before code goal w.acts rest) (first w.acts p.state)
+    (before code goal w.acts rest) refl (first w.acts p.state)
     (λ c1 f1 v1 x s1 q1.
     let o1 = q1.1 in
     let p1 = o1.point in
@@ -201,7 +202,7 @@ both_decide {X} worded fits few k m n left right last first second result el er 
     let i2 = index + size_of a + size_of put' in
     comes_on w.acts (second w.acts p1.state) (λ y. next' x y)
     (comes_map (value_aims worded fits k.block k.labels (behind p1 held (taken + 1) c2 i2 part2))
-    (before code goal w.acts (λ y. next' x y)) (second w.acts p1.state)
+    (before code goal w.acts (λ y. next' x y)) refl (second w.acts p1.state)
     (λ c3 f3 v3 y s3 q3.
     let o3 = q3.1 in
     let p3 = o3.point in
@@ -264,7 +265,7 @@ one_decides k m first last meant result does op p numbers taken c index f o line
     let closed = bit_closed k.block k.labels (behind p numbers taken c index (a ++ last)) in
     let next' : Bool → Meaning Bool = λ x. give (result x) in
     comes_on w.acts (meant w.acts p.state) next'
-    (comes_map (bit_aims k.block k.labels (behind p numbers taken c index a)) (before code goal w.acts next')
+    (comes_map (bit_aims k.block k.labels (behind p numbers taken c index a)) (before code goal w.acts next') refl
     (meant w.acts p.state)
     (λ c1 f1 v1 x s1 o1.
     let p1 = o1.point in

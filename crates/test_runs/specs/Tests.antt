@@ -10,7 +10,7 @@ use Rattle.pli_coding.specs.Expressions.{bit_code}
 use Rattle.activation_relation.specs.Layers.{Point, services_of}
 use Rattle.run_steps.specs.Items.{Linked}
 use Rattle.run_steps.specs.Reach.{Aims, Comes, Family, cost}
-use Rattle.block_runs.specs.Machines.{AreIn}
+use Rattle.block_runs.specs.Machines.{AreIn, limits_of}
 use Rattle.program_runs.specs.Statements.{Block, IsAmong, JumpsTo}
 use Rattle.expression_runs.specs.Values.{HasRegisters, HasWord, Setting, Stretch, behind, in_registers}
 
@@ -18,6 +18,7 @@ use Rattle.expression_runs.specs.Values.{HasRegisters, HasWord, Setting, Stretch
 abbrev pub bit_aims : Block → List Label → Stretch → Aims Bool
 bit_aims k labels x =
     record {
+      limits = limits_of k.call.surroundings;
       done = λ c f v b s. HasWord k x (flag b) c f v s;
       jumped = λ c f v height label s. JumpsTo k labels x.acts c f v height label s;
       returned = λ c f v r s. ⊥;

@@ -293,7 +293,7 @@ put_is input acts few b =
       skip = tt;
       lists = (
         (
-          record { fixed = refl; text = refl; are = (tt, tt); some = refl },
+          record { fixed = refl; text = refl; are = (refl, tt); some = refl },
           formats_known input acts b,
         ),
         tt,

@@ -104,7 +104,7 @@ cut_comes entries k x error p numbers taken c index f h short answers o line ove
       texts = λ part. TextEntry part ∷ (entries ++ e);
       result = λ part b. word x.first;
     } in
-    tested_comes place asked (text_closed entries k whole) h
+    tested_comes place asked (text_closed entries k whole) refl h
     (record { among = o; line = line; linked = l; paid = paid; there = at })
     (record { small' = lit< tt; coded = lit< tt; some = refl; serves = λ call r. refl; answers = answers })
     error (λ c' f' v' height label s' q. q)
@@ -359,7 +359,7 @@ part_last entries k error text i count q short wide eq p numbers taken c index f
     (λ g1 at1.
     let among1 = held_among (over there' k) taken 1 (word i) one (omega arith) small' o in
     comes_on w.acts (V.number k.around count w.acts p.state) last
-    (comes_map (value_aims there' k (behind p held (taken + 1) c2 i2 part2)) (before code goal w.acts last)
+    (comes_map (value_aims there' k (behind p held (taken + 1) c2 i2 part2)) (before code goal w.acts last) refl
     (V.number k.around count w.acts p.state)
     (λ c3 f3 v3 j s3 q3.
     let o3 = q3.1 in

@@ -1,5 +1,5 @@
 -- Texts and numbers at the points of a block while others wait, seen from an earlier beginning and from machines.
-use Rattle.std.proofs.Common.{ℕ, ◌⊎◌, List, [], inl, inr, ◌∙◌, subst, arith}
+use Rattle.std.proofs.Common.{ℕ, ◌⊎◌, List, [], inl, inr, ◌∙◌, subst, arith, refl}
 use Rattle.std.specs.Prelude.{ℤ}
 use Rattle.pli_typing.specs.TypedTree as Y
 use Rattle.pli_meaning.specs.Control.{Flow, Label}
@@ -88,7 +88,7 @@ pub push_further :
     IsFurther x y → Comes k.block.call.code c f v (text_aims entries k x) flow →
     Comes k.block.call.code c f v (text_aims entries k y) flow
 push_further entries k {x} {y} {flow = flow} i o =
-    comes_map (text_aims entries k x) (text_aims entries k y) flow
+    comes_map (text_aims entries k x) (text_aims entries k y) refl flow
     (λ c f v text s q. text_further i q)
     (λ c f v height label s q. jumps_since i.acts q)
     (λ c f v r s q. absurd q)
@@ -99,7 +99,7 @@ pub value_further :
     IsFurther x y → Comes k.block.call.code c f v (value_aims entries k x) flow →
     Comes k.block.call.code c f v (value_aims entries k y) flow
 value_further entries k {x} {y} {flow = flow} i o =
-    comes_map (value_aims entries k x) (value_aims entries k y) flow
+    comes_map (value_aims entries k x) (value_aims entries k y) refl flow
     (λ c f v z s q. (q.0, word_further i q.1))
     (λ c f v height label s q. jumps_since i.acts q)
     (λ c f v r s q. absurd q)
@@ -128,7 +128,7 @@ pub above_does :
 above_does entries k x need does p numbers taken c index f o line registers l paid there =
     let part = number_code k.block.environment (in_registers k.words taken) x in
     let y = behind p numbers taken c index part in
-    comes_map (number_aims (waiting entries k.block) [] y) (value_aims entries k y)
+    comes_map (number_aims (waiting entries k.block) [] y) (value_aims entries k y) refl
     (V.number k.around x k.block.call.surroundings.acts p.state)
     (λ c f v z s q. q)
     (λ c f v height label s q. jumps_down entries k q)

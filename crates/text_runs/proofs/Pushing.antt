@@ -61,7 +61,7 @@ number_pushes entries k x precision need some few el p numbers taken c index f o
     let l1 = back_of a (one ++ service 21) l in
     let e = k.block.first.control.entries in
     comes_on w.acts (V.number k.around x w.acts p.state) rest
-    (comes_map (value_aims entries k (behind p numbers taken c index a)) (before code goal w.acts rest)
+    (comes_map (value_aims entries k (behind p numbers taken c index a)) (before code goal w.acts rest) refl
     (V.number k.around x w.acts p.state)
     (λ c1 f1 v1 z s1 q1.
     let o1 = q1.1 in
@@ -110,7 +110,7 @@ number_pushes entries k x precision need some few el p numbers taken c index f o
     (record { reserved = λ b. refl; memory = λ b m is. texts_in (entries' ++ e) is }) (back_of one (service 21) l1)
     (reached_holds r1) in
     record {
-      to = record {
+      to = λ early. record {
         short = number_short precision z;
         point = p2;
         numbers = o1.numbers;
@@ -164,7 +164,7 @@ joined_last entries k error s t p numbers taken c index f o line over' l paid th
       texts = λ both. TextEntry both ∷ (entries ++ e);
       result = λ both. x;
     } in
-    tested_comes place asked (text_closed entries k whole) h
+    tested_comes place asked (text_closed entries k whole) refl h
     (record {
       among = o;
       line = line;

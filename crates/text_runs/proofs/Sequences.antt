@@ -1,5 +1,5 @@
 -- Code behind one text or two, or behind a text and a number: it takes them from the stack, and leads to an aim.
-use Rattle.std.proofs.Common.{◌≡◌, ℕ, ◌+◌, ◌≤◌, List, ◌∷◌, ◌++◌, sym, ◌∙◌, subst, arith}
+use Rattle.std.proofs.Common.{◌≡◌, ℕ, ◌+◌, ◌≤◌, List, ◌∷◌, ◌++◌, sym, ◌∙◌, subst, arith, refl}
 use Rattle.std.specs.Prelude.{ℤ, max}
 use Rattle.std.proofs.Math.Nat.{le-max_left, le-max_right}
 use Rattle.rv_meaning.specs.Machine.{value}
@@ -19,7 +19,7 @@ use Rattle.run_steps.proofs.Linking.{size_append}
 use Rattle.run_steps.specs.Numbers.{IsWide}
 use Rattle.run_steps.specs.Reach.{Aims, Closed, Comes, Family, before, cost}
 use Rattle.run_steps.proofs.Reach.{comes_on, onward}
-use Rattle.block_runs.specs.Machines.{AreIn, IsIn}
+use Rattle.block_runs.specs.Machines.{AreIn, IsIn, limits_of}
 use Rattle.block_runs.proofs.CallStatements.{comes_map}
 use Rattle.program_runs.specs.Statements.{IsAmong, JumpsTo, waiting}
 use Rattle.program_runs.proofs.JumpsOut.{jumps_since}
@@ -34,6 +34,7 @@ use Rattle.text_runs.proofs.Points.{push_further, text_closed, value_closed, val
 -- what is aimed at behind a stretch of code in a block: it may be reached later, or by a jump, or seen from an earlier
 -- beginning
 pub record Leads {X : Type 0} (k : Setting) (A : Stretch → Aims X) : Type 1 where
+  pub limits : (y : Stretch) → (A y).limits ≡ limits_of k.block.call.surroundings
   pub closed : (y : Stretch) → Closed k.block.call.code (A y)
   pub jumped :
       (y : Stretch) (c : ℕ) (f : Family) (v : Services) (height : ℕ) (label : Label) (s : State) →
@@ -45,6 +46,7 @@ pub record Leads {X : Type 0} (k : Setting) (A : Stretch → Aims X) : Type 1 wh
 pub text_leads : (entries : List Entry) (k : Setting) → Leads k (text_aims entries k)
 text_leads entries k =
     record {
+      limits = λ y. refl;
       closed = text_closed entries k;
       jumped = λ y c f v height label s q. q;
       further = λ x y c f v flow i o. push_further entries k i o;
@@ -53,6 +55,7 @@ text_leads entries k =
 pub value_leads : (entries : List Entry) (k : Setting) → Leads k (value_aims entries k)
 value_leads entries k =
     record {
+      limits = λ y. refl;
       closed = value_closed entries k;
       jumped = λ y c f v height label s q. q;
       further = λ x y c f v flow i o. value_further entries k i o;
@@ -129,6 +132,7 @@ one_text entries k A leads need part last first next' el ends p numbers taken c 
     let closed = leads.closed whole in
     comes_on w.acts (first w.acts p.state) next'
     (comes_map (text_aims entries k (behind p numbers taken c index a)) (before code goal w.acts next')
+    (leads.limits whole)
     (first w.acts p.state)
     (λ c1 f1 v1 s s1 q1.
     let p1 = q1.point in
@@ -192,6 +196,7 @@ two_texts {X} entries k A leads m n left right last first second next' el er end
     let l1 = back_of a (b' ++ last) l in
     comes_on w.acts (first w.acts p.state) rest
     (comes_map (text_aims entries k (behind p numbers taken c index a)) (before code goal w.acts rest)
+    (leads.limits whole)
     (first w.acts p.state)
     (λ c1 f1 v1 s s1 q1.
     let p1 = q1.point in
@@ -203,7 +208,7 @@ two_texts {X} entries k A leads m n left right last first second next' el er end
     (λ g1 at1.
     comes_on w.acts (second w.acts p1.state) (next' s)
     (comes_map (text_aims (TextEntry s ∷ entries) k (behind p1 q1.numbers taken c2 i2 b'))
-    (before code goal w.acts (next' s)) (second w.acts p1.state)
+    (before code goal w.acts (next' s)) (leads.limits whole) (second w.acts p1.state)
     (λ c3 f3 v3 u s3 q3.
     let p3 = q3.point in
     let since3 = q3.since in
@@ -260,6 +265,7 @@ text_and_number {X} entries k A leads m n q left right last first second next' e
     let l1 = back_of a (b' ++ end) l in
     comes_on w.acts (first w.acts p.state) rest
     (comes_map (text_aims entries k (behind p numbers taken c index a)) (before code goal w.acts rest)
+    (leads.limits whole)
     (first w.acts p.state)
     (λ c1 f1 v1 s s1 q1.
     let p1 = q1.point in
@@ -271,7 +277,7 @@ text_and_number {X} entries k A leads m n q left right last first second next' e
     (λ g1 at1.
     comes_on w.acts (second w.acts p1.state) (next' s)
     (comes_map (value_aims (TextEntry s ∷ entries) k (behind p1 q1.numbers taken c2 i2 b'))
-    (before code goal w.acts (next' s)) (second w.acts p1.state)
+    (before code goal w.acts (next' s)) (leads.limits whole) (second w.acts p1.state)
     (λ c3 f3 v3 z s3 q3.
     let o3 = q3.1 in
     let p3 = o3.point in

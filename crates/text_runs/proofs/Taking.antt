@@ -96,7 +96,7 @@ measured_last entries k text short p numbers taken c index f o line over' l paid
     (record { reserved = λ b. refl; memory = λ b m is. texts_in (entries ++ e) is }) (back_of one (service 27) l)
     (reached_holds r1) in
     record {
-      to = (
+      to = λ early. (
         small_wide n (omega (arith, short)),
         record {
           point = q;
@@ -183,7 +183,7 @@ found_last entries k mode n s t small' few same p numbers taken c index f o line
     (record { reserved = λ b. refl; memory = λ b m is. texts_in (entries ++ e) is }) (back_of one (service 25) l)
     (reached_holds r1) in
     record {
-      to = (
+      to = λ early. (
         small_wide n few,
         record {
           point = q;
@@ -302,7 +302,7 @@ shown_last entries k error text p numbers taken c index f o line over' l paid th
       texts = λ z. entries ++ e;
       result = λ z b. word z;
     } in
-    tested_comes place asked (value_closed entries k whole) h
+    tested_comes place asked (value_closed entries k whole) refl h
     (record {
       among = o;
       line = line;

@@ -28,6 +28,7 @@ use Rattle.expression_runs.specs.Values.{Setting}
 use Rattle.expression_runs.proofs.Words.{frame_of}
 use Rattle.text_runs.specs.Texts.{ErrorComes, error_aims}
 use Rattle.text_runs.proofs.TextCalls.{Asking, asks, status_none, status_some, three, told, two}
+use Rattle.block_runs.specs.Machines.{limits_of}
 
 -- a service by its number, what it is given in a0 to a2, its status where it has no result, what then stands on the
 -- stack, and what it answers in a0
@@ -76,6 +77,7 @@ pub record IsPlace (k : Place) (x y z : Base → ℕ) (h : frame_of k.setting.bl
 
 outcome_comes :
     {X : Type 0} (k : Place) (t : Tested X) {aims : Aims X} → Closed k.setting.block.call.code aims →
+    aims.limits ≡ limits_of k.setting.block.call.surroundings →
     (h : frame_of k.setting.block k.point) → IsPlace k t.x t.y t.z h t.number →
     IsTested k.setting.block.call.code k.point t → ErrorComes X k.setting → (o : Option X) → t.outcome ≡ o →
     ((c : ℕ) (f : Family) (v : Services) (height : ℕ) (label : Label) (s : State) →
@@ -89,7 +91,7 @@ outcome_comes :
     Comes k.setting.block.call.code k.credits k.family (services_of k.point) aims
     (R.or_error k.setting.around t.code o k.setting.block.call.surroundings.acts k.point.state)
 unfolding R.or_error give
-outcome_comes {X} k t {aims} closed h is asks' error None e jumps goal =
+outcome_comes {X} k t {aims} closed same h is asks' error None e jumps goal =
     let w = k.setting.block.call.surroundings in
     let p = k.point in
     let v = services_of p in
@@ -118,7 +120,7 @@ outcome_comes {X} k t {aims} closed h is asks' error None e jumps goal =
     let l1 = back_of (service t.number) status_tested is.linked in
     onward closed r1 (λ g1 at1.
     onward closed (status_some (k.credits + 2) t.code g1 asks'.some l1 at1) (λ g2 at2.
-    comes_map (error_aims X k.setting p.state.world.acts) aims
+    comes_map (error_aims X k.setting p.state.world.acts) aims same
     (R.error {R = X} k.setting.around t.code w.acts p.state)
     (λ c f v' r s q. absurd q)
     jumps
@@ -126,7 +128,7 @@ outcome_comes {X} k t {aims} closed h is asks' error None e jumps goal =
     (error k.entries p k.numbers (k.credits + 2 + 1) (k.index + 2 + 1) t.code g2 is.among is.line asks'.coded
     (rest_of _ (JumpTo RaiseError ∷ []) l1) (omega (arith, paid))
     (λ b. (in_known h is.among.image.parts (at2 b), (at2 b).holds.regs.1.0)))))
-outcome_comes {X} k t {aims} closed h is asks' error (Some r) e jumps goal =
+outcome_comes {X} k t {aims} closed same h is asks' error (Some r) e jumps goal =
     let w = k.setting.block.call.surroundings in
     let p = k.point in
     let v = services_of p in
@@ -155,10 +157,11 @@ outcome_comes {X} k t {aims} closed h is asks' error (Some r) e jumps goal =
     let r2 = status_none (k.credits + 2) (reached r1) (back_of (service t.number) status_tested is.linked)
     (reached_holds r1) in
     onward closed (reach_moved {c'' = k.credits + 5} {i'' = k.index + 5} (omega arith) (omega arith) (reach_then r1 r2))
-    (λ g at. record { to = goal r g e at })
+    (λ g at. record { to = λ early. goal r g e at })
 
 pub tested_comes :
     {X : Type 0} (k : Place) (t : Tested X) {aims : Aims X} → Closed k.setting.block.call.code aims →
+    aims.limits ≡ limits_of k.setting.block.call.surroundings →
     (h : frame_of k.setting.block k.point) → IsPlace k t.x t.y t.z h t.number →
     IsTested k.setting.block.call.code k.point t → ErrorComes X k.setting →
     ((c : ℕ) (f : Family) (v : Services) (height : ℕ) (label : Label) (s : State) →
@@ -171,5 +174,5 @@ pub tested_comes :
     aims.done (k.credits + 5) f (services_of (with_texts (t.texts r) k.point)) r k.point.state) →
     Comes k.setting.block.call.code k.credits k.family (services_of k.point) aims
     (R.or_error k.setting.around t.code t.outcome k.setting.block.call.surroundings.acts k.point.state)
-tested_comes k t closed h is asks' error jumps goal =
-    outcome_comes k t closed h is asks' error t.outcome refl jumps goal
+tested_comes k t closed same h is asks' error jumps goal =
+    outcome_comes k t closed same h is asks' error t.outcome refl jumps goal

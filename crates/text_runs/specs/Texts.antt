@@ -19,7 +19,7 @@ use Rattle.run_steps.specs.Engine.{Base}
 use Rattle.run_steps.specs.Items.{Linked}
 use Rattle.run_steps.specs.Numbers.{IsWide}
 use Rattle.run_steps.specs.Reach.{Aims, Comes, Family, Reach, cost}
-use Rattle.block_runs.specs.Machines.{AreIn, IsIn}
+use Rattle.block_runs.specs.Machines.{AreIn, IsIn, limits_of}
 use Rattle.program_runs.specs.Statements.{Block, IsAmong, JumpsTo, waiting}
 use Rattle.expression_runs.specs.Raises.{Routines}
 use Rattle.expression_runs.specs.Values.{HasRegisters, HasWord, Setting, Stretch, behind, in_registers}
@@ -30,6 +30,7 @@ use Rattle.expression_runs.specs.Values.{HasRegisters, HasWord, Setting, Stretch
 abbrev pub value_aims : List Entry → Setting → Stretch → Aims ℤ
 value_aims entries k x =
     record {
+      limits = limits_of k.block.call.surroundings;
       done = λ c f v z s. IsWide z × HasWord (waiting entries k.block) x (word z) c f v s;
       jumped = λ c f v height label s. JumpsTo k.block k.labels x.acts c f v height label s;
       returned = λ c f v r s. ⊥;
@@ -71,6 +72,7 @@ pub record HasText (entries : List Entry) (k : Block) (x : Stretch) (text : List
 abbrev pub text_aims : List Entry → Setting → Stretch → Aims (List ℕ)
 text_aims entries k x =
     record {
+      limits = limits_of k.block.call.surroundings;
       done = λ c f v text s. HasText entries k.block x text c f v s;
       jumped = λ c f v height label s. JumpsTo k.block k.labels x.acts c f v height label s;
       returned = λ c f v r s. ⊥;
@@ -94,6 +96,7 @@ Pushes entries k need part meaning =
 abbrev pub error_aims : (X : Type 0) → Setting → (acts : ℕ) → Aims X
 error_aims X k acts =
     record {
+      limits = limits_of k.block.call.surroundings;
       done = λ c f v r s. ⊥;
       jumped = λ c f v height label s. JumpsTo k.block k.labels acts c f v height label s;
       returned = λ c f v r s. ⊥;

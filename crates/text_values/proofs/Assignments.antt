@@ -195,7 +195,7 @@ stored_goes k labels x varying most is begun line left' acts wanted debt i c {f}
     subst (λ flow. Comes code c f (services_of p) (owing code debt aims) flow)
     (sym (text_meant varying (at_line k.around line) p.state (variable_of x) most n.text text w.acts n.holds))
     (record {
-      to = done_owing (statement_closed k labels acts i wanted left') debt wanted paid r tt q.state
+      to = λ early. done_owing (statement_closed k labels acts i wanted left') debt wanted paid r tt q.state
           (λ g' at'. goes_here acts wanted g' since among
           (λ b. subst (λ j. IsIn w q numbers j b (g' b)) end (at' b)));
     })
@@ -246,11 +246,11 @@ text_assign_does words k labels x varying size source line index left' need most
     comes_on w.acts (source' w.acts p'.state) (λ v. put_in k x line v)
     (comes_on w.acts flow as_value
     (comes_map (text_aims [] s y)
-    (before code (before code owed w.acts (λ v. put_in k x line v)) w.acts as_value) flow
+    (before code (before code owed w.acts (λ v. put_in k x line v)) w.acts as_value) refl flow
     (λ c' f' v' text s' q.
     let more = q.since in
     record {
-      to =
+      to = λ early.
           subst (λ u. Comes code c' f' v' owed (put_in k x line (BasicText text) w.acts u)) (sym q.state)
           (onward closed q.reach
           (λ g' at'.

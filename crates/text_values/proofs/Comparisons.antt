@@ -60,10 +60,11 @@ bit_closed entries k x =
 pub bit_leads : (entries : List Entry) (k : Setting) → Leads k (bit_aims entries k)
 bit_leads entries k =
     record {
+      limits = λ y. refl;
       closed = bit_closed entries k;
       jumped = λ y c f v height label s q. q;
       further = λ x y c f v flow i o.
-          comes_map (bit_aims entries k x) (bit_aims entries k y) flow
+          comes_map (bit_aims entries k x) (bit_aims entries k y) refl flow
           (λ c f v z s q. word_further i q)
           (λ c f v height label s q. jumps_since i.acts q)
           (λ c f v r s q. absurd q)
@@ -76,7 +77,7 @@ pub above_bit :
 above_bit entries k x need does p numbers taken c index f o line registers l paid there =
     let part = bit_code k.block.environment (record { registers = taken; words = k.words }) x in
     let y = behind p numbers taken c index part in
-    comes_map (T.bit_aims (waiting entries k.block) [] y) (bit_aims entries k y)
+    comes_map (T.bit_aims (waiting entries k.block) [] y) (bit_aims entries k y) refl
     (V.bit k.around x k.block.call.surroundings.acts p.state)
     (λ c f v z s q. q)
     (λ c f v height label s q. jumps_down entries k q)
@@ -166,7 +167,7 @@ compared_last entries k comparison s t p numbers taken c index f o line over' l 
     (back_of moves (compared_code comparison) l1) (reached_holds r2) in
     let whole = behind p numbers taken c index (service 24 ++ rest) in
     record {
-      to = record {
+      to = λ early. record {
         point = q;
         numbers = numbers;
         among = texts_among k.block (TextEntry t ∷ TextEntry s ∷ entries) entries o over';

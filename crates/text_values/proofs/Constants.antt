@@ -139,7 +139,7 @@ constant_pushes entries k bytes short knows p numbers taken c index f o line reg
     })
     (back_of third last l2) (reached_holds r3) in
     record {
-      to = record {
+      to = λ early. record {
         short = short;
         point = q;
         numbers = numbers;

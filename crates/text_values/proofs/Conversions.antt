@@ -72,7 +72,7 @@ bit_pushes entries k x need el p numbers taken c index f o line registers l paid
     let l1 = back_of a (one ++ service 21) l in
     let e = k.block.first.control.entries in
     comes_on w.acts (V.bit k.around x w.acts p.state) rest
-    (comes_map (bit_aims entries k (behind p numbers taken c index a)) (before code goal w.acts rest)
+    (comes_map (bit_aims entries k (behind p numbers taken c index a)) (before code goal w.acts rest) refl
     (V.bit k.around x w.acts p.state)
     (λ c1 f1 v1 z s1 o1.
     let p1 = o1.point in
@@ -120,7 +120,7 @@ bit_pushes entries k x need el p numbers taken c index f o line registers l paid
     (record { reserved = λ b. refl; memory = λ b m is. texts_in (entries' ++ e) is }) (back_of one (service 21) l1)
     (reached_holds r1) in
     record {
-      to = record {
+      to = λ early. record {
         short = bit_short z;
         point = p2;
         numbers = o1.numbers;
@@ -161,10 +161,10 @@ number_of_bit entries k x need does p numbers taken c index f o line registers l
     let y = behind p numbers taken c index (bit_code k.block.environment (in_registers k.words taken) x) in
     let rest : Bool → Meaning ℤ = λ b. give (bit_number b) in
     comes_on w.acts (V.bit k.around x w.acts p.state) rest
-    (comes_map (bit_aims entries k y) (before code (value_aims entries k y) w.acts rest)
+    (comes_map (bit_aims entries k y) (before code (value_aims entries k y) w.acts rest) refl
     (V.bit k.around x w.acts p.state)
     (λ c1 f1 v1 b s q. record {
-      to = (bit_wide b, subst (λ u. HasWord (waiting entries k.block) y u c1 f1 v1 s) (bit_word b) q);
+      to = λ early. (bit_wide b, subst (λ u. HasWord (waiting entries k.block) y u c1 f1 v1 s) (bit_word b) q);
     })
     (λ c1 f1 v1 height label s q. q)
     (λ c1 f1 v1 r s q. absurd q)
@@ -222,7 +222,7 @@ shown_last entries k error text p numbers taken c index f o line over' l paid th
       texts = λ z. entries ++ e;
       result = λ z b. flag z;
     } in
-    tested_comes place asked (bit_closed entries k whole) h
+    tested_comes place asked (bit_closed entries k whole) refl h
     (record {
       among = o;
       line = line;

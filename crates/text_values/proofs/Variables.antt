@@ -137,7 +137,7 @@ variable_pushes entries k x varying most begun is p numbers taken c index f o li
     subst (λ flow. Comes code c f v (text_aims entries k whole') flow)
     (sym (text_gives varying k.around p.state (variable_of x) most text w.acts n.holds ∙ given text w.acts p.state))
     (record {
-      to = record {
+      to = λ early. record {
         short = n.holds.short;
         point = q;
         numbers = numbers;

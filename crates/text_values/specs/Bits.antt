@@ -11,7 +11,7 @@ use Rattle.pli_coding.specs.Expressions.{bit_code}
 use Rattle.activation_relation.specs.Layers.{Point, services_of}
 use Rattle.run_steps.specs.Items.{Linked}
 use Rattle.run_steps.specs.Reach.{Aims, Comes, Family, cost}
-use Rattle.block_runs.specs.Machines.{AreIn}
+use Rattle.block_runs.specs.Machines.{AreIn, limits_of}
 use Rattle.program_runs.specs.Statements.{IsAmong, JumpsTo, waiting}
 use Rattle.expression_runs.specs.Values.{HasRegisters, HasWord, Setting, Stretch, behind, in_registers}
 use Rattle.text_runs.specs.Laws.{NumberDoes, TextDoes}
@@ -23,6 +23,7 @@ use Rattle.test_runs.specs.Tests.{Tests}
 abbrev pub bit_aims : List Entry → Setting → Stretch → Aims Bool
 bit_aims entries k x =
     record {
+      limits = limits_of k.block.call.surroundings;
       done = λ c f v b s. HasWord (waiting entries k.block) x (flag b) c f v s;
       jumped = λ c f v height label s. JumpsTo k.block k.labels x.acts c f v height label s;
       returned = λ c f v r s. ⊥;

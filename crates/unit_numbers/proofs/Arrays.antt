@@ -6,24 +6,26 @@ use Rattle.pli_language.specs.declared.condition.Condition.{Condition}
 use Rattle.pli_typing.specs.Signatures.{Bounds}
 use Rattle.pli_typing.specs.TypedTree as Y
 use Rattle.pli_meaning.specs.StorageState as M
-use Rattle.pli_meaning.specs.StorageState.{Activation, BlockUnit, ancestor, ancestor_at, binding_in, height_of}
+use Rattle.pli_meaning.specs.StorageState.{Activation, ancestor, ancestor_at, binding_in, height_of}
 use Rattle.pli_meaning.specs.StorageState.{newest_height}
 use Rattle.pli_serving.specs.ServiceState as S
 use Rattle.activation_relation.specs.Chains.{frame_at}
 use Rattle.activation_relation.specs.Changes.{newest_with}
+use Rattle.activation_relation.specs.Frames.{frame_under}
 use Rattle.activation_relation.specs.Landing.{with_units}
 use Rattle.activation_relation.specs.Layers.{Layer, Point}
+use Rattle.program_runs.specs.Starts.{image_parts}
 use Rattle.program_runs.specs.Statements.{Block, Outer}
-use Rattle.expression_runs.specs.Variables.{IsFrameOf, Spot}
+use Rattle.expression_runs.specs.Variables.{IsFrameOf, IsNumber, Spot}
 use Rattle.jump_runs.proofs.Numbers.{leaving}
 use Rattle.variable_runs.specs.Known.{IsKnown}
 use Rattle.element_runs.specs.Arrays.{IsArray}
 use Rattle.scalar_runs.specs.Scalars.{IsScalar}
 use Rattle.element_runs.proofs.Outer.{outer_array}
 use Rattle.number_runs.proofs.Narrow.{outer_narrow}
-use Rattle.unit_runs.specs.Changing.{Past, after, past_point}
-use Rattle.unit_runs.specs.Establishing.{unit_of}
-use Rattle.unit_runs.proofs.OwnRaises.{past_like}
+use Rattle.phase_runs.specs.Phases.{in_phase}
+use Rattle.phase_runs.specs.Units.{Past, newest_units, past_point}
+use Rattle.unit_numbers.proofs.Past.{past_like, past_living}
 
 -- ---- units that are established
 
@@ -40,17 +42,17 @@ past_frame [] p height = refl
 past_frame (e ∷ past) p height = frame_same _ (past_point past p).control.layers height ∙ past_frame past p height
 
 binding_same :
-    (c : Condition) (u : M.OnUnit) (as' : List Activation) (level variable : ℕ) →
-    binding_in (ancestor (M.established c u as') (newest_height (M.established c u as')) level) variable
+    (us : List (Condition × M.OnUnit)) (as' : List Activation) (level variable : ℕ) →
+    binding_in (ancestor (newest_units us as') (newest_height (newest_units us as')) level) variable
     ≡ binding_in (ancestor as' (newest_height as') level) variable
-binding_same c u [] level variable = refl
-binding_same c u (a ∷ as') level variable =
-    by (a.height == a.height) (a.level == level)
+binding_same us [] level variable = refl
+binding_same us (a ∷ as') level variable = by (a.height == a.height) (a.level == level)
   where
     by :
         (q r : Bool) →
-        binding_in (cond q (cond r (Some (with_units ((c, u) ∷ M.without_unit c a.units) a))
-        (ancestor as' a.parent level)) (ancestor as' a.height level)) variable
+        binding_in
+        (cond q (cond r (Some (with_units us a)) (ancestor as' a.parent level)) (ancestor as' a.height level))
+        variable
         ≡ binding_in (cond q (cond r (Some a) (ancestor as' a.parent level)) (ancestor as' a.height level)) variable
     by true true = refl
     by true false = refl
@@ -62,24 +64,30 @@ past_binding :
     ≡ binding_in (ancestor_at p.state level) variable
 past_binding [] p level variable = refl
 past_binding (e ∷ past) p level variable =
-    binding_same e.0.condition (BlockUnit (unit_of e.0)) (past_point past p).state.activations level variable
+    binding_same _ (past_point past p).state.activations level variable
     ∙ past_binding past p level variable
-
-past_living :
-    (past : Past) (p : Point) → (past_point past p).state.living ≡ p.state.living
-past_living [] p = refl
-past_living (e ∷ past) p = past_living past p
 
 past_places :
     (past : Past) (p : Point) → (past_point past p).places ≡ p.places
 past_places [] p = refl
 past_places (e ∷ past) p = past_places past p
 
+-- a block in a phase
+abbrev phase_at : Block → Past → Block
+phase_at k past = in_phase k (past_point past k.first)
+
 past_frame_of :
-    (k : Block) (past : Past) (level base : ℕ) → IsFrameOf k level base → IsFrameOf (after k past) level base
-past_frame_of k past level base (inl own) = inl (own.0, own.1 ∙ sym (past_like k past).frame)
-past_frame_of k past level base (inr out) =
-    let e = (past_like k past).ancestors level in
+    (k : Block) (past : Past) (level base : ℕ) → k.call.surroundings.parts ≡ image_parts → IsFrameOf k level base →
+    IsFrameOf (phase_at k past) level base
+past_frame_of k past level base parts (inl own) =
+    inl (
+      own.0,
+      own.1
+          ∙ sym (subst (λ q. frame_under q (past_point past k.first).control.layers
+          ≡ frame_under q k.first.control.layers) (sym parts) (past_like past k.first).frame),
+    )
+past_frame_of k past level base parts (inr out) =
+    let e = (past_like past k.first).ancestors level in
     inr (
       out.0,
       out.1,
@@ -89,8 +97,9 @@ past_frame_of k past level base (inr out) =
     )
 
 past_known :
-    (k : Block) (past : Past) (x : Spot) (d : Y.DeclaredVariable) → IsKnown k x d → IsKnown (after k past) x d
-past_known k past x d n =
+    (k : Block) (past : Past) (x : Spot) (d : Y.DeclaredVariable) → k.call.surroundings.parts ≡ image_parts →
+    IsKnown k x d → IsKnown (phase_at k past) x d
+past_known k past x d parts n =
     record {
       declared = n.declared;
       serial = n.serial;
@@ -99,19 +108,42 @@ past_known k past x d n =
       lives = ap (λ ls. M.living_of ls n.serial) (past_living past k.first) ∙ n.lives;
       shape = n.shape;
       base = n.base;
-      frame = past_frame_of k past x.level n.base n.frame;
+      frame = past_frame_of k past x.level n.base parts n.frame;
+      at = ap (λ (ps : _). ps.at n.serial) (past_places past k.first) ∙ n.at;
+      low = n.low;
+      inside = n.inside;
+    }
+
+pub past_number :
+    (k : Block) (past : Past) (x : Spot) → k.call.surroundings.parts ≡ image_parts → IsNumber k x →
+    IsNumber (phase_at k past) x
+past_number k past x parts n =
+    record {
+      initial = n.initial;
+      declared = n.declared;
+      serial = n.serial;
+      binding = past_binding past k.first x.level x.index ∙ n.binding;
+      living = n.living;
+      lives = ap (λ ls. M.living_of ls n.serial) (past_living past k.first) ∙ n.lives;
+      shape = n.shape;
+      base = n.base;
+      frame = past_frame_of k past x.level n.base parts n.frame;
       at = ap (λ (ps : _). ps.at n.serial) (past_places past k.first) ∙ n.at;
       low = n.low;
       inside = n.inside;
     }
 
 pub past_array :
-    (k : Block) (past : Past) (x : Spot) (b : Bounds) → IsArray k x b → IsArray (after k past) x b
-past_array k past x b is = outer_array k (after k past) x b (λ d known. past_known k past x d known) is
+    (k : Block) (past : Past) (x : Spot) (b : Bounds) → k.call.surroundings.parts ≡ image_parts → IsArray k x b →
+    IsArray (phase_at k past) x b
+past_array k past x b parts is =
+    outer_array k (phase_at k past) x b (λ d known. past_known k past x d parts known) is
 
 pub past_narrow :
-    (k : Block) (past : Past) (x : Spot) (b : Y.LeafType) → IsScalar k x b → IsScalar (after k past) x b
-past_narrow k past x b is = outer_narrow k (after k past) x b (λ d known. past_known k past x d known) is
+    (k : Block) (past : Past) (x : Spot) (b : Y.LeafType) → k.call.surroundings.parts ≡ image_parts → IsScalar k x b →
+    IsScalar (phase_at k past) x b
+past_narrow k past x b parts is =
+    outer_narrow k (phase_at k past) x b (λ d known. past_known k past x d parts known) is
 
 -- ---- a block, whatever is further out
 

@@ -33,7 +33,7 @@ divide_by k raises p numbers taken c index f o line registers l paid there =
     let y = behind p numbers taken c index zero_divide_raised in
     let n = size_append raise' back in
     let wanted = c + size_of raise' in
-    comes_map (raise_aims k p numbers (index + size_of raise') wanted) (word_aims k.block k.labels y 0)
+    comes_map (raise_aims k p numbers (index + size_of raise') wanted) (word_aims k.block k.labels y 0) refl
     (R.raised k.around C.ZeroDivide zero_divide_code w.acts p.state)
     (λ c' f' v' r s q.
     let h' = point_frame q.among.stands q.among.image in

@@ -34,7 +34,7 @@ use Rattle.nested_calls.specs.Nested.{IsNested, parent_at}
 use Rattle.number_runs.specs.Knowledge.{IsHome}
 use Rattle.number_runs.specs.Numbers.{bounds_known, type_known}
 use Rattle.number_runs.specs.Variables.{words_in}
-use Rattle.number_runs.proofs.Takes.{plain_known, registers_held}
+use Rattle.number_runs.proofs.BlocksTaken.{plain_known, registers_held}
 use Rattle.number_runs.proofs.Words.{room_behind}
 use Rattle.number_headlines.proofs.FullWords.{words_at, words_count, words_lower}
 use Rattle.number_headlines.proofs.Loops.{after_waits, after_words}

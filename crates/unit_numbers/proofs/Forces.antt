@@ -1,14 +1,17 @@
--- Which unit is in force for a condition where another one has been established: the one that was.
-use Rattle.std.proofs.Common.{◌≡◌, List, [], ◌∷◌, Option, Some, None, true, false, refl, sym, ap, ◌∙◌, subst}
+-- The units of the main procedure's one activation: each is the system's, or that of one of its ONs, so the one in
+-- force for a condition is, too, or there is none.
+use Rattle.std.proofs.Common.{◌≡◌, ◌⊎◌, inl, inr, ℕ, List, [], ◌∷◌, Option, Some, None, true, false, refl, sym, ap}
+use Rattle.std.proofs.Common.{◌∙◌, subst}
 use Rattle.std.specs.Prelude.{Bool, cond}
 use Rattle.std.proofs.lemmas.Option.{same_Some}
 use Rattle.pli_language.specs.declared.condition.Condition.{Condition}
 use Rattle.pli_language.specs.declared.condition.Condition.TheVariants as C
-use Rattle.pli_meaning.specs.StorageState.{Activation, BlockUnit, OnUnit, SystemUnit, established, first_unit, force}
-use Rattle.pli_meaning.specs.StorageState.{same_condition, unit_for, without_unit}
+use Rattle.pli_meaning.specs.StorageState.{Activation, BlockUnit, OnUnit, SystemUnit, first_unit, force, same_condition}
+use Rattle.pli_meaning.specs.StorageState.{unit_for, without_unit}
 use Rattle.activation_relation.specs.ServiceLaws.{IsSystem}
 use Rattle.unit_runs.specs.Establishing as T
 use Rattle.unit_runs.specs.Establishing.{unit_of}
+use Rattle.phase_runs.specs.Units.{ByRevert, BySystem, ByUnit, Change, IsBy, IsListed, meant_by}
 
 -- ---- conditions
 
@@ -46,75 +49,91 @@ condition_same C.ZeroDivide = refl
 condition_same C.Endfile = refl
 condition_same C.Error = refl
 
-abbrev pub IsOther : (d c : Condition) → Type 0
-IsOther d c = same_condition d c ≡ false
-
 -- ---- the units of one activation
 
-without_other :
-    (us : List (Condition × OnUnit)) (d c : Condition) → IsOther d c →
-    unit_for (without_unit d us) c ≡ unit_for us c
-without_other [] d c h = refl
-without_other (u ∷ us) d c h = by (same_condition u.0 d) refl (without_other us d c h)
+-- of one of these ONs, for the same condition
+pub record IsOf (ons : List (T.OnUnit × ℕ)) (c : Condition) (u : OnUnit) : Type 0 where
+  pub unit : T.OnUnit
+  pub index : ℕ
+  pub listed : IsListed (unit, index) ons
+  pub condition : unit.condition ≡ c
+  pub is : u ≡ BlockUnit (unit_of unit)
+
+abbrev IsOwn : List (T.OnUnit × ℕ) → Condition → OnUnit → Type 0
+IsOwn ons c u = (u ≡ SystemUnit) ⊎ IsOf ons c u
+
+abbrev pub AreOwn : List (T.OnUnit × ℕ) → List (Condition × OnUnit) → Type 0
+AreOwn ons [] = Unit {0}
+AreOwn ons (u ∷ us) = IsOwn ons u.0 u.1 × AreOwn ons us
+
+without_own :
+    (ons : List (T.OnUnit × ℕ)) (c : Condition) (us : List (Condition × OnUnit)) → AreOwn ons us →
+    AreOwn ons (without_unit c us)
+without_own ons c [] h = tt
+without_own ons c (u ∷ us) h = by (same_condition u.0 c) (without_own ons c us h.1)
+  where
+    by : (q : Bool) → AreOwn ons (without_unit c us) → AreOwn ons (cond q us (u ∷ without_unit c us))
+    by true rest = h.1
+    by false rest = (h.0, rest)
+
+-- whatever is done to them
+pub change_own :
+    (ons : List (T.OnUnit × ℕ)) (e : Change) (us : List (Condition × OnUnit)) → IsBy ons e → AreOwn ons us →
+    AreOwn ons (meant_by e us)
+change_own ons (ByUnit x index) us is h = (
+  inr (record { unit = x; index = index; listed = is; condition = refl; is = refl }),
+  without_own ons x.condition us h,
+)
+change_own ons (BySystem c) us is h = (inl refl, without_own ons c us h)
+change_own ons (ByRevert c) us is h = without_own ons c us h
+
+found_own :
+    (ons : List (T.OnUnit × ℕ)) (us : List (Condition × OnUnit)) (c : Condition) (u : OnUnit) → AreOwn ons us →
+    unit_for us c ≡ Some u → IsOwn ons c u
+found_own ons [] c u h e = absurd (cc e)
+found_own ons (x ∷ us) c u h e = by (same_condition x.0 c) refl e (found_own ons us c u h.1)
   where
     by :
-        (q : Bool) → same_condition u.0 d ≡ q → unit_for (without_unit d us) c ≡ unit_for us c →
-        unit_for (cond q us (u ∷ without_unit d us)) c ≡ unit_for (u ∷ us) c
-    by true e rest =
-        let other = subst (λ x. same_condition x c ≡ false) (sym (same_is u.0 d e)) h in
-        sym (ap (λ q. cond q (Some u.1) (unit_for us c)) other)
-    by false e rest = ap (λ o. cond (same_condition u.0 c) (Some u.1) o) rest
+        (q : Bool) → same_condition x.0 c ≡ q → cond q (Some x.1) (unit_for us c) ≡ Some u →
+        (unit_for us c ≡ Some u → IsOwn ons c u) → IsOwn ons c u
+    by true is f rest =
+        subst (IsOwn ons c) (same_Some x.1 u f) (subst (λ d. IsOwn ons d x.1) (same_is x.0 c is) h.0)
+    by false is f rest = rest f
 
-established_other :
-    (us : List (Condition × OnUnit)) (unit : OnUnit) (d c : Condition) → IsOther d c →
-    unit_for ((d, unit) ∷ without_unit d us) c ≡ unit_for us c
-established_other us unit d c h =
-    ap (λ q. cond q (Some unit) (unit_for (without_unit d us) c)) h ∙ without_other us d c h
-
--- ---- the system's
-
-pub system_still :
-    (d c : Condition) (unit : OnUnit) (as' : List Activation) → IsOther d c → IsSystem (force as' c) →
-    IsSystem (force (established d unit as') c)
-system_still d c unit [] h is = is
-system_still d c unit (a ∷ as') h is =
-    subst (λ o. IsSystem (first_unit now o (force as' c))) (sym (established_other a.units unit d c h))
-    (same (unit_for a.units c) is)
-  where
-    now : Activation
-    now = record a { units = (d, unit) ∷ without_unit d a.units }
-
-    same :
-        (o : Option OnUnit) → IsSystem (first_unit a o (force as' c)) → IsSystem (first_unit now o (force as' c))
-    same None is = is
-    same (Some SystemUnit) is = tt
-    same (Some (BlockUnit unit)) is = absurd is
-
--- ---- a unit of the program, which the main procedure has established
+-- ---- the one in force
 
 pub record Forced (found : Option (Activation × OnUnit)) (x : T.OnUnit) : Type 0 where
   pub by : Activation
   pub own : by.height ≡ 1
   pub is : found ≡ Some (by, BlockUnit (unit_of x))
 
-pub forced_still :
-    (d c : Condition) (unit : OnUnit) (as' : List Activation) (x : T.OnUnit) → IsOther d c →
-    Forced (force as' c) x → Forced (force (established d unit as') c) x
-forced_still d c unit [] x h f = f
-forced_still d c unit (a ∷ as') x h f =
-    subst (λ o. Forced (first_unit now o (force as' c)) x) (sym (established_other a.units unit d c h))
-    (same (unit_for a.units c) f)
-  where
-    now : Activation
-    now = record a { units = (d, unit) ∷ without_unit d a.units }
+pub record Found (ons : List (T.OnUnit × ℕ)) (a : Activation) (c : Condition) : Type 0 where
+  pub unit : T.OnUnit
+  pub index : ℕ
+  pub listed : IsListed (unit, index) ons
+  pub condition : unit.condition ≡ c
+  pub forced : Forced (force (a ∷ []) c) unit
 
-    same :
-        (o : Option OnUnit) → Forced (first_unit a o (force as' c)) x → Forced (first_unit now o (force as' c)) x
-    same None f = f
-    same (Some u) f =
-        let e = same_Some (a, u) (f.by, BlockUnit (unit_of x)) f.is in
-        record {
-          by = now;
-          own = ap (λ (p : Activation × OnUnit). p.0.height) e ∙ f.own;
-          is = ap (λ (p : Activation × OnUnit). Some (now, p.1)) e;
-        }
+pub force_own :
+    (ons : List (T.OnUnit × ℕ)) (a : Activation) (c : Condition) → a.height ≡ 1 → AreOwn ons a.units →
+    IsSystem (force (a ∷ []) c) ⊎ Found ons a c
+force_own ons a c height own = by (unit_for a.units c) refl
+  where
+    by : (o : Option OnUnit) → unit_for a.units c ≡ o → IsSystem (force (a ∷ []) c) ⊎ Found ons a c
+    by None e = inl (subst (λ q. IsSystem (first_unit a q None)) (sym e) tt)
+    by (Some u) e = of (found_own ons a.units c u own e)
+      where
+        of : IsOwn ons c u → IsSystem (force (a ∷ []) c) ⊎ Found ons a c
+        of (inl system) = inl (subst (λ q. IsSystem (first_unit a q None)) (sym (e ∙ ap (λ v. Some v) system)) tt)
+        of (inr x) =
+            inr (record {
+              unit = x.unit;
+              index = x.index;
+              listed = x.listed;
+              condition = x.condition;
+              forced = record {
+                by = a;
+                own = height;
+                is = ap (λ q. first_unit a q None) (e ∙ ap (λ v. Some v) x.is);
+              };
+            })

@@ -29,17 +29,16 @@ use Rattle.number_headlines.proofs.FullWords.{words_at, words_count, words_lower
 use Rattle.number_headlines.proofs.Loops.{after_waits, after_words}
 use Rattle.number_headlines.proofs.Running.{Free, with_layers}
 use Rattle.number_headlines.proofs.Tables.{block_plain}
-use Rattle.unit_runs.specs.Changing.{IsPast, Past, past_point}
-use Rattle.unit_runs.proofs.Changing.{begun_after}
-use Rattle.unit_runs.proofs.OwnRaises.{past_like, past_numbers}
-use Rattle.unit_numbers.proofs.Arrays.{past_array, past_narrow}
-use Rattle.unit_numbers.proofs.Established.{start_of}
+use Rattle.phase_runs.specs.Units.{AreBy, Past, past_point}
+use Rattle.phase_runs.proofs.Units.{past_begun}
+use Rattle.unit_numbers.proofs.Arrays.{past_array, past_narrow, past_number}
+use Rattle.unit_numbers.proofs.Established.{ons_placed}
 use Rattle.unit_numbers.proofs.Mains.{Main, block_for, free, layer_behind_all, level_of, list_of, main_array}
 use Rattle.unit_numbers.proofs.Mains.{main_begun, main_narrow, own_narrow_known}
 use Rattle.unit_numbers.proofs.Mains.{main_layer, main_number, main_scope, own_array_known, own_known}
-use Rattle.unit_numbers.proofs.Mains.{own_words, surroundings_for}
+use Rattle.unit_numbers.proofs.Mains.{ons_of, own_words, surroundings_for}
 use Rattle.unit_numbers.proofs.Outer.{main_top}
-use Rattle.unit_numbers.proofs.Past.{main_past, past_living, past_same}
+use Rattle.unit_numbers.proofs.Past.{main_past, past_like, past_living, past_same}
 
 pub record Home : Type 0 where
   pub input : List ℕ
@@ -57,7 +56,7 @@ world_of m h = surroundings_for m h.input h.acts
 pub record IsHome' {program : Y.Program} (m : Main program) (h : Home) : Type 0 where
   pub few : h.acts + 1 < 2 ^ 64
   pub first : IsBegun (block_for m h.input h.acts)
-  pub known : IsPast (block_for m h.input h.acts) (list_of m) (start_of m) h.past
+  pub known : AreBy (ons_of m) h.past
   pub begun : IsBegun (home_block m h)
   pub numbers : (x : Spot) → is_known (main_scope m false) x ≡ true → IsNumber (home_block m h) x
   pub arrays :
@@ -161,21 +160,22 @@ plain_home input acts past = record { input = input; acts = acts; past = past; l
 
 pub home_is :
     {program : Y.Program} (m : Main program) (input : List ℕ) (acts : ℕ) (past : Past) → acts + 1 < 2 ^ 64 →
-    IsBegun (block_for m input acts) → IsPast (block_for m input acts) (list_of m) (start_of m) past →
+    IsBegun (block_for m input acts) → AreBy (ons_of m) past →
     (is : IsHome' m (plain_home input acts past)) × ((n : ℕ) → is.free.layer.waits n ≡ None)
 home_is {program} m input acts past few b known =
     let k0 = block_for m input acts in
     let room = main_free m input acts past in
-    let like = past_like k0 past in (
+    let like = past_like past k0.first in (
       record {
         few = few;
         first = b;
         known = known;
-        begun = begun_after k0 (list_of m) (start_of m) past b known;
-        numbers = λ x is. past_numbers k0 past x (main_number m input acts x (own_known m input acts x is) b);
-        arrays = λ x is. past_array k0 past x (bounds_known (main_scope m false) x) (main_array m input acts x is b);
+        begun = past_begun k0 (ons_of m) past (ons_placed m) known b;
+        numbers = λ x is. past_number k0 past x refl (main_number m input acts x (own_known m input acts x is) b);
+        arrays = λ x is. past_array k0 past x (bounds_known (main_scope m false) x) refl
+            (main_array m input acts x is b);
         narrows = λ x is.
-            past_narrow k0 past x (type_known (main_scope m false) x) (main_narrow m input acts x is b);
+            past_narrow k0 past x (type_known (main_scope m false) x) refl (main_narrow m input acts x is b);
         free = room.free;
         words = room.words;
         ends = like.top ∙ main_top m input acts

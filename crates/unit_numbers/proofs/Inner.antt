@@ -1,5 +1,5 @@
 -- What a call finds: a procedure or a function of the class, which a block around the calling one declares.
-use Rattle.std.proofs.Common.{◌≡◌, ℕ, suc, ◌≤◌, List, [], ◌∷◌, Option, None, Some, Bool, true, false, refl}
+use Rattle.std.proofs.Common.{◌≡◌, ℕ, suc, ◌≤◌, List, [], ◌∷◌, length, Option, None, Some, Bool, true, false, refl}
 use Rattle.std.proofs.Common.{sym, ap, ◌∙◌, subst}
 use Rattle.std.specs.Prelude.{◌&&◌, ◌==◌, ◌||◌, cond, nat_le}
 use Rattle.std.specs.List.{list_any}
@@ -76,27 +76,27 @@ valued_is true (Some t) h = refl
 
 pub inner_is :
     {program : Y.Program} (m : Main program) (caller : Y.BlockHead) (valued : Bool) (level number : ℕ) →
-    is_callable program m.called caller false valued level number ≡ true → Inner m caller valued level number
+    is_callable program m.called caller 0 valued level number ≡ true → Inner m caller valued level number
 inner_is {program} m caller valued level number h =
     by (procedure_numbered number program.procedures) refl parts.1
     (listed_inner program (list_of m) m.called number m.called m.calls parts.0)
   where
     parts :
         (list_any (λ n. n == number) m.called ≡ true)
-        × (is_declared_if program caller false valued level (procedure_numbered number program.procedures) ≡ true)
+        × (is_declared_if program caller 0 valued level (procedure_numbered number program.procedures) ≡ true)
     parts = and_parts (list_any (λ n. n == number) m.called)
-        (is_declared_if program caller false valued level (procedure_numbered number program.procedures)) h
+        (is_declared_if program caller 0 valued level (procedure_numbered number program.procedures)) h
 
     by :
         (o : Option Y.Procedure) → procedure_numbered number program.procedures ≡ o →
-        is_declared_if program caller false valued level o ≡ true → is_called_if program m.called (list_of m) o ≡ true →
+        is_declared_if program caller 0 valued level o ≡ true → is_called_if program m.called (list_of m) o ≡ true →
         Inner m caller valued level number
     by None e f g = absurd (cc f)
     by (Some p) e f g =
         let head = head_of p.block in
         let body = body_of p.block in
         let alike = stand_alike (environment_for program caller) (environment_for program head) level in
-        let a = and_parts (has_none p.parameters)
+        let a = and_parts (length p.parameters == 0)
         (has_result valued p.result && ((head.level == suc level) && (nat_le level caller.level && alike))) f in
         let b = and_parts (has_result valued p.result)
         ((head.level == suc level) && (nat_le level caller.level && alike)) a.1 in
@@ -112,7 +112,7 @@ inner_is {program} m caller valued level number h =
           body = body;
           is =
               ap (λ k. procedure_numbered k program.procedures) n ∙ e
-              ∙ ap (λ q. Some q) (procedure_is valued p a.0 b.0);
+              ∙ ap (λ q. Some q) (procedure_is valued p i.0 b.0);
           numbered = n;
           inside = eqb-true head.level (suc level) c.0;
           around_it = leb-true level caller.level d.0;

@@ -1,5 +1,6 @@
 pub mod Arrays
 pub mod Takes
+pub mod Inside
 pub mod Places
 pub mod Mains
 pub mod Forces
@@ -25,9 +26,10 @@ pub mod Kept
 pub mod Rows
 pub mod GuardRows
 pub mod GroupRows
+pub mod ShiftRows
+pub mod HailRows
 pub mod MendRows
 pub mod WrapRows
 pub mod AgainRows
 pub mod ClimbRows
 pub mod TallyRows
-pub mod Spread

@@ -1,5 +1,5 @@
 -- The main procedure of a program of the class where it begins: its variables are made, and there is room for a unit.
-use Rattle.std.proofs.Common.{◌≡◌, ℕ, ◌+◌, ◌≤◌, List, [], ◌∷◌, None, true, false}
+use Rattle.std.proofs.Common.{◌≡◌, ℕ, ◌+◌, ◌≤◌, List, [], ◌∷◌, ◌++◌, None, true, false}
 use Rattle.std.proofs.Common.{length, refl, sym, ap, ◌∙◌, subst, arith}
 use Rattle.std.specs.Prelude.{◌&&◌, Bool, nat_le}
 use Rattle.std.specs.List.{list_any}
@@ -8,6 +8,7 @@ use Rattle.pli_language.specs.declared.condition.Condition.{Condition}
 use Rattle.pli_typing.specs.TypedTree as Y
 use Rattle.pli_meaning.specs.BasicValues.{VariableName}
 use Rattle.pli_meaning.specs.DeclaredShapes.{declared_variable, head_of, variables_of_block}
+use Rattle.pli_meaning.specs.Executing.{labels_in}
 use Rattle.pli_meaning.specs.Making.{with_binding}
 use Rattle.pli_meaning.specs.StorageState.{Activation, Binding, OnUnit}
 use Rattle.pli_coding.specs.Frames.{fixed_size, parameters_in}
@@ -49,11 +50,11 @@ use Rattle.number_headlines.specs.Programs.{places_to}
 use Rattle.number_headlines.proofs.Places.{around_is}
 use Rattle.number_headlines.proofs.Mains.{made_for, procedure_is, spare}
 use Rattle.number_headlines.proofs.Tables.{all_known, block_plain, has_table}
+use Rattle.unit_runs.specs.Establishing as T
 use Rattle.unit_numbers.specs.Programs.{are_apart, are_steps, has_unit_main, is_unit_body}
-use Rattle.unit_numbers.specs.Calls.{are_called, called_ones, scope_in}
-use Rattle.unit_numbers.proofs.Places.{units_of}
-use Rattle.unit_numbers.specs.Groups.{spread_all}
-use Rattle.unit_numbers.proofs.Spread.{all_takes}
+use Rattle.unit_numbers.specs.Calls.{all_units_in, are_called, called_ones, scope_in}
+use Rattle.unit_numbers.proofs.Forces.{AreOwn}
+use Rattle.unit_numbers.proofs.Places.{all_placed_in, places_of}
 use Rattle.unit_numbers.proofs.Takes.{behind_variables, steps_taken}
 
 -- its program, with what the class says of it
@@ -67,15 +68,19 @@ pub record Main (program : Y.Program) : Type 0 where
   pub memory : FitsMemory (picture_of parts program)
   -- the numbers of the procedures that it calls, and that they call
   pub called : List ℕ
-  pub steps : are_steps program called head (spread_all body) (spread_all body) ≡ true
-  pub apart : are_apart (spread_all body) ≡ true
-  pub fits : statements_need (spread_all body) ≤ held_registers
-  pub waiting : statements_set (spread_all body) ≤ most_waiting
-  pub calls : are_called program (spread_all body) called called ≡ true
+  pub steps : are_steps program called head body (labels_in body ++ []) body ≡ true
+  pub apart : are_apart (all_units_in body) ≡ true
+  pub fits : statements_need body ≤ held_registers
+  pub waiting : statements_set body ≤ most_waiting
+  pub calls : are_called program body called called ≡ true
 
--- its list, in which groups with ON stand for their statements
+-- its list
 abbrev pub list_of : {program : Y.Program} → Main program → Y.Stmts
-list_of m = spread_all m.body
+list_of m = m.body
+
+-- its ONs, where they stand
+abbrev pub ons_of : {program : Y.Program} → Main program → List (T.OnUnit × ℕ)
+ons_of {program} m = all_placed_in (environment_for program m.head) m.body (body_for program m.head m.body)
 
 -- as it is placed
 abbrev pub placed : {program : Y.Program} → Main program → Placed.Main
@@ -89,16 +94,16 @@ main_is program [] e plain load memory h = absurd (cc h)
 main_is program (p ∷ ps) e plain load memory h =
     let head = head_of p.block in
     let body = body_of p.block in
-    let list' = spread_all body in
-    let called = called_ones program list' in
-    let inner = is_unit_body program called head list' in
-    let fits = nat_le (statements_need list') held_registers in
-    let waiting = nat_le (statements_set list') most_waiting in
-    let all = are_called program list' called called in
+    let called = called_ones program body in
+    let inner = is_unit_body program called head body in
+    let fits = nat_le (statements_need body) held_registers in
+    let waiting = nat_le (statements_set body) most_waiting in
+    let all = are_called program body called called in
     let a = and_parts (has_none p.parameters) (has_result false p.result && inner) h in
     let b = and_parts (has_result false p.result) inner a.1 in
-    let c = and_parts (are_steps program called head list' list') (are_apart list' && (fits && (waiting && all))) b.1 in
-    let d = and_parts (are_apart list') (fits && (waiting && all)) c.1 in
+    let c = and_parts (are_steps program called head body (labels_in body ++ []) body)
+    (are_apart (all_units_in body) && (fits && (waiting && all))) b.1 in
+    let d = and_parts (are_apart (all_units_in body)) (fits && (waiting && all)) c.1 in
     let f = and_parts fits (waiting && all) d.1 in
     let g = and_parts waiting all f.1 in
     record {
@@ -112,8 +117,8 @@ main_is program (p ∷ ps) e plain load memory h =
       called = called;
       steps = c.0;
       apart = d.0;
-      fits = leb-true (statements_need list') held_registers f.0;
-      waiting = leb-true (statements_set list') most_waiting g.0;
+      fits = leb-true (statements_need body) held_registers f.0;
+      waiting = leb-true (statements_set body) most_waiting g.0;
       calls = g.1;
     }
 
@@ -121,7 +126,7 @@ main_is program (p ∷ ps) e plain load memory h =
 
 -- with the units of its main procedure
 abbrev pub units_for : {program : Y.Program} → Main program → UnitPlaces
-units_for {program} m = units_of (environment_for program m.head) (list_of m) (body_for program m.head m.body)
+units_for m = places_of (ons_of m)
 
 abbrev pub run_for : {program : Y.Program} → Main program → (input : List ℕ) → (acts : ℕ) → Run
 run_for m input acts = record { units = units_for m; input = input; acts = acts; serials = most_words }
@@ -144,13 +149,7 @@ list_takes :
     {program : Y.Program} (m : Main program) →
     Sets (statements_need (list_of m)) (statements_set (list_of m)) none_taken (stmts_take none_taken m.body)
 list_takes {program} m =
-    let x = steps_taken program m.called m.head (list_of m) (list_of m) m.steps m.fits in
-    let y = all_takes m.body in
-    let p = x.registers in
-    let q = y.registers in
-    let u = x.words in
-    let v = y.words in
-    record { registers = omega (arith, p, q); words = omega (arith, u, v) }
+    steps_taken program m.called m.head (list_of m) (labels_in m.body ++ []) (list_of m) m.steps m.fits
 
 -- the statements that it may have, as a scope
 abbrev pub main_scope : {program : Y.Program} → Main program → (writes : Bool) → Scope
@@ -363,31 +362,32 @@ abbrev pub alone : (level : ℕ) → List Binding → List (Condition × OnUnit)
 alone level bindings units =
     record { height = 1; level = level; parent = 0; oncode = 0; bindings = bindings; units = units } ∷ []
 
-pub record Alone (level : ℕ) (as' : List Activation) : Type 0 where
+pub record Alone (level : ℕ) (ons : List (T.OnUnit × ℕ)) (as' : List Activation) : Type 0 where
   pub bindings : List Binding
   pub units : List (Condition × OnUnit)
+  pub own : AreOwn ons units
   pub is : as' ≡ alone level bindings units
 
 made_alone :
-    (level : ℕ) (φ : Layer) (xs : List Declared) (p : Point) → Alone level p.state.activations →
-    Alone level (all_made image_parts φ xs p).state.activations
-made_alone level φ [] p h = h
-made_alone level φ (x ∷ xs) p h =
+    (level : ℕ) (ons : List (T.OnUnit × ℕ)) (φ : Layer) (xs : List Declared) (p : Point) →
+    Alone level ons p.state.activations → Alone level ons (all_made image_parts φ xs p).state.activations
+made_alone level ons φ [] p h = h
+made_alone level ons φ (x ∷ xs) p h =
     let b : Binding = record {
       variable = x.index;
       name = VariableName (p.state.serials + 1);
       shape = (generation_for x).shape;
     } in
-    made_alone level (layer_behind image_parts (p.state.serials + 1) φ x) xs (behind_made image_parts φ x p)
-    (record { bindings = b ∷ h.bindings; units = h.units; is = ap (λ as'. with_binding b as') h.is })
+    made_alone level ons (layer_behind image_parts (p.state.serials + 1) φ x) xs (behind_made image_parts φ x p)
+    (record { bindings = b ∷ h.bindings; units = h.units; own = h.own; is = ap (λ as'. with_binding b as') h.is })
 
 pub first_alone :
     {program : Y.Program} (m : Main program) (input : List ℕ) (acts : ℕ) →
-    Alone m.head.level (block_for m input acts).first.state.activations
+    Alone m.head.level (ons_of m) (block_for m input acts).first.state.activations
 first_alone {program} m input acts =
-    made_alone m.head.level (main_layer m input acts) (words_in (environment_for program m.head))
+    made_alone m.head.level (ons_of m) (main_layer m input acts) (words_in (environment_for program m.head))
     (main_begun m input acts)
-    (record { bindings = []; units = []; is = refl })
+    (record { bindings = []; units = []; own = tt; is = refl })
 
 -- the layer behind its variables, with what stays free
 abbrev pub layer_behind_all : {program : Y.Program} → Main program → (input : List ℕ) → (acts : ℕ) → Layer

@@ -37,7 +37,7 @@ use Rattle.number_runs.specs.Arrays.{bounds_if, is_array_if}
 use Rattle.number_runs.specs.Numbers.{Scope, is_array_known, is_known, is_place, is_plain_if, is_narrow_known}
 use Rattle.number_runs.specs.Statements.{statements_set}
 use Rattle.number_runs.specs.Variables.{HasWords, HaveRoom, bytes_of, words_in}
-use Rattle.number_runs.proofs.Takes.{plain_known, words_set}
+use Rattle.number_runs.proofs.BlocksTaken.{plain_known, words_set}
 use Rattle.number_runs.proofs.Words.{all_words, function_array, function_word, own_array, own_word, room_fewer}
 use Rattle.number_runs.proofs.Words.{function_narrow, own_narrow}
 use Rattle.number_headlines.specs.Programs.{places_to}

@@ -91,8 +91,8 @@ call_goes words k labels c acts level line index left' more h p numbers wanted f
     )
     (front_of given' call l) there)
     (λ g at.
-    comes_map (hand_aims (own_block z) acts wanted) (before k.call.code aims w.acts N.behind_call) flow
-    (λ c' f' v' r s q. record { to = N.behind_goes h o since q })
+    comes_map (hand_aims (own_block z) acts wanted) (before k.call.code aims w.acts N.behind_call) refl flow
+    (λ c' f' v' r s q. record { to = λ early. N.behind_goes h o since q })
     (λ c' f' v' height label s q. record { to = q })
     (λ c' f' v' r s q. absurd q)
     (procedure_hands z is acts (0 + size_of given') wanted g list' (omega (arith, n, inside, proc))
@@ -231,7 +231,7 @@ nested_jump_function_does k c level more h few made' does p numbers taken credit
     )
     (front_of given' call' l') there)
     (λ g at.
-    comes_map (hand_aims (J.own_block z) acts (credits + size_of part)) (before code goal w.acts F.as_number) flow
+    comes_map (hand_aims (J.own_block z) acts (credits + size_of part)) (before code goal w.acts F.as_number) refl flow
     (λ c1 f1 v1 r s q. F.behind_goes k c taken index credits o part call (omega (arith, size, n)) c1 f1 v1 r s q)
     (λ c1 f1 v1 height label s q. record { to = q })
     (λ c1 f1 v1 r s q. absurd q)

@@ -25,7 +25,6 @@ use Rattle.number_runs.specs.Variables.{are_plain, bytes_of, is_declared, variab
 use Rattle.number_runs.proofs.Declared.{makeable}
 use Rattle.number_headlines.proofs.Tables.{block_plain}
 use Rattle.unit_numbers.proofs.Mains.{Main, alone, block_for, free, list_of, main_spare, main_words}
-use Rattle.unit_numbers.proofs.Spread.{all_labels}
 
 -- ---- its activation
 
@@ -100,5 +99,5 @@ pub main_saves :
     {program : Y.Program} (m : Main program) (label : Label) → is_among label (labels_in (list_of m)) ≡ true →
     held_registers ≤ block_held (environment_for program m.head) m.head.number m.body
 main_saves {program} m label e =
-    let h = labels_saved program label m.body (subst (λ ls. is_among label ls ≡ true) (all_labels m.body) e) in
+    let h = labels_saved program label m.body e in
     omega (arith, h)

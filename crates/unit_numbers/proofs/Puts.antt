@@ -1,6 +1,6 @@
 -- Statements that write numbers by format lists: they raise nothing for which the main procedure has a unit, so what is
 -- known around them is known while a place in a format list is in use, too.
-use Rattle.std.proofs.Common.{◌≡◌, ℕ, ◌+◌, ◌*◌, ◌^◌, ◌<◌, List, [], ◌∷◌, true, refl}
+use Rattle.std.proofs.Common.{◌≡◌, ℕ, ◌+◌, ◌*◌, ◌^◌, ◌<◌, List, [], ◌∷◌, true, false, refl, sym}
 use Rattle.std.proofs.Common.{◌∙◌, arith}
 use Rattle.pli_language.specs.declared.condition.Condition.TheVariants as C
 use Rattle.pli_typing.specs.Signatures.{Bounds}
@@ -31,8 +31,9 @@ use Rattle.number_runs.proofs.Puts.{narrow_placed}
 use Rattle.number_runs.proofs.Received.{parameter_placed}
 use Rattle.argument_runs.specs.Parameters.{IsParameter}
 use Rattle.scalar_runs.specs.Scalars.{IsScalar}
-use Rattle.unit_runs.specs.Changing.{Past, after, past_point}
+use Rattle.phase_runs.specs.Units.{Past, past_point}
 use Rattle.unit_numbers.proofs.Mains.{Main, block_for, run_for}
+use Rattle.unit_numbers.proofs.Past.{main_past}
 
 -- ---- static data
 
@@ -43,7 +44,7 @@ past_constants (e ∷ past) p = past_constants past p
 -- what the program tells of its static data is told there, whatever units it has by then
 pub main_told :
     {program : Y.Program} (m : Main program) (input : List ℕ) (acts : ℕ) (past : Past) →
-    IsBegun (block_for m input acts) → IsOf program (after (block_for m input acts) past)
+    IsBegun (block_for m input acts) → IsOf program (main_past m input acts past)
 main_told {program} m input acts past b =
     let k = block_for m input acts in
     let o = main_of_program program (run_for m input acts) k refl refl refl b in
@@ -88,6 +89,8 @@ pub record IsSettled (s : Scope) (k : Block) (most : ℕ) : Type 0 where
   pub arrays : s.elements ≡ true → (x : Spot) → is_array_known s x ≡ true → IsArray k x (bounds_known s x)
   pub narrows : s.narrows ≡ true → (x : Spot) → is_narrow_known s x ≡ true → IsScalar k x (type_known s x)
   pub parameters : (x : Spot) → is_received s x ≡ true → IsParameter k x
+  -- without texts
+  pub wordless : s.texts ≡ false
   pub lists : KnowsLists k
 
 -- there numbers may be written
@@ -124,7 +127,9 @@ settled_writes s k most h =
             arrays = λ raises x is. array_placed k place x (bounds_known s x) (h.arrays raises x is);
             narrows = λ may x is. narrow_placed k place x (type_known s x) (h.narrows may x is);
             parameters = λ x is. parameter_placed k place x (h.parameters x is);
+            texts = λ may. absurd (cc (sym h.wordless ∙ may));
             given = λ may. absurd (cc may);
+            located = λ may. absurd (cc may);
             functions = λ level n is. absurd (cc is);
           };
       error = λ words may place labels line.

@@ -47,10 +47,11 @@ use Rattle.unit_runs.specs.Raised.{AreMade, IsRaiseOf, IsRaised, IsRaisedAt, Rai
 use Rattle.unit_runs.specs.Raised.{unit_layer}
 use Rattle.nested_calls.proofs.NestedVariables.{Over, over_known, over_nested, over_number, same_ancestor}
 use Rattle.unit_numbers.specs.Calls.{scope_in}
+use Rattle.unit_numbers.specs.Programs.{are_apart}
 use Rattle.unit_numbers.proofs.Established.{Newest}
 use Rattle.unit_numbers.proofs.Homes.{Home, IsHome', low_array, low_narrow, low_spot, world_of}
-use Rattle.unit_numbers.proofs.Mains.{Main, level_of, list_of, main_scope, most_for, placed}
-use Rattle.unit_numbers.proofs.Places.{one_place}
+use Rattle.unit_numbers.proofs.Mains.{Main, level_of, list_of, main_scope, most_for, ons_of, placed}
+use Rattle.unit_numbers.proofs.Places.{all_heads_in, listed_at, one_place}
 use Rattle.unit_numbers.proofs.Scenes.{IsAt, IsEntered, Part, block_of}
 use Rattle.unit_numbers.proofs.Takes.{unit_taken}
 use Rattle.unit_numbers.proofs.Units.{Unit', unit_is}
@@ -144,8 +145,9 @@ unit_raised once {program} m h ih more b c o os a words labels line {condition} 
             (subst (λ m'. HasParent 1 m' o.first.state.activations) (sym n.forced.own) (omega arith, oldest a));
         room = omega (arith, set, waiting, level, fits, used, top, lower);
         shallow = few;
-        only = λ at there. one_place e (list_of m) (body_for program m.head m.body) (Y.BlockOf x.head x.body) at
-            (4 * unit_index x index) m.apart there n.placed.stands;
+        only = λ at there. one_place (ons_of m) (Y.BlockOf x.head x.body) at (4 * unit_index x index)
+            (ap are_apart (all_heads_in e m.body (body_for program m.head m.body)) ∙ m.apart) there
+            (listed_at (x, index) (ons_of m) n.listed);
         some = omega arith;
         stands = stands.linked;
         labels = are_marked links code (list_index y) y.environment x.body

@@ -7,6 +7,7 @@ use Rattle.std.proofs.lemmas.Bool.{and_parts, eqb-true}
 use Rattle.pli_language.specs.declared.condition.Condition.{Condition}
 use Rattle.pli_language.specs.declared.condition.Condition.TheVariants as C
 use Rattle.pli_typing.specs.TypedTree as Y
+use Rattle.pli_meaning.specs.Codes.{code_signalled}
 use Rattle.pli_meaning.specs.Control.{Label, is_among}
 use Rattle.pli_meaning.specs.Executing.{labels_in}
 use Rattle.pli_meaning.specs.StorageState.{force, most_activations}
@@ -25,21 +26,23 @@ use Rattle.program_places.proofs.Procedures.{raise_routines}
 use Rattle.program_runs.specs.Calls.{left_over}
 use Rattle.program_runs.specs.Starts.{image_parts}
 use Rattle.program_runs.specs.Statements.{Block, Does, Outer, as_outer}
+use Rattle.expression_runs.specs.Assignments.{setting_of}
 use Rattle.expression_runs.specs.Values.{OverflowComes}
 use Rattle.expression_runs.proofs.Raises.{overflow_ends}
 use Rattle.element_runs.specs.Subscripts.{SubscriptComes}
 use Rattle.element_runs.proofs.Outside.{subscripts_end}
 use Rattle.operator_runs.specs.Divisors.{ZeroDivideComes}
 use Rattle.operator_runs.proofs.Divisors.{zero_divide_ends}
-use Rattle.number_runs.specs.Knowledge.{Includes, KnowsCalls, KnowsJumps, KnowsPuts, KnowsRaises}
+use Rattle.number_runs.specs.Knowledge.{Includes, KnowsCalls, KnowsJumps, KnowsPuts, KnowsRaises, KnowsSignals}
 use Rattle.number_runs.specs.Numbers.{Scope}
 use Rattle.number_runs.specs.Variables.{words_in}
 use Rattle.number_headlines.proofs.Puts.{error_routine, lists_known}
 use Rattle.unit_runs.specs.Raised.{IsRaised, UnitDoes, unit_block}
-use Rattle.unit_runs.proofs.DeepRaises.{deep_overflow_ends}
-use Rattle.unit_runs.proofs.OwnRaises.{past_like}
-use Rattle.unit_runs.proofs.UnitRuns.{overflow_returns}
+use Rattle.unit_runs.specs.Signals.{IsResumed}
+use Rattle.unit_runs.proofs.DeepRaises.{deep_overflow_ends, deep_raise_ends}
+use Rattle.unit_runs.proofs.UnitRuns.{RaisesTo, overflow_returns, raise_returns}
 use Rattle.unit_runs.proofs.UnitVariables.{none_made}
+use Rattle.phase_runs.proofs.Signals.{codes_are, signal_by, signal_ends}
 use Rattle.nested_calls.specs.Nested.{parent_at}
 use Rattle.unit_numbers.specs.Calls.{has_unit}
 use Rattle.unit_numbers.proofs.Calls.{calls_of}
@@ -48,10 +51,11 @@ use Rattle.unit_numbers.proofs.Established.{InForce, Newest, error_system, in_fo
 use Rattle.unit_numbers.proofs.Homes.{Home, IsHome', home_block}
 use Rattle.unit_numbers.proofs.Mains.{Main, block_for, level_of, list_of, main_begun, main_layer, most_for}
 use Rattle.unit_numbers.proofs.Outer.{main_saves, made_stacks}
+use Rattle.unit_numbers.proofs.Past.{past_like}
 use Rattle.unit_numbers.proofs.Puts.{settled_writes}
 use Rattle.unit_numbers.proofs.Raised.{Case, part_of, raise_setting, unit_at, unit_entered, unit_raised}
 use Rattle.unit_numbers.proofs.Scenes.{EachBody, IsAbove, IsAt, IsInside, Part, Rises, block_of, scope_of}
-use Rattle.unit_numbers.proofs.Units.{none_coded, unit_is}
+use Rattle.unit_numbers.proofs.Units.{IsOfNumbers, none_coded, unit_is}
 
 -- ---- a unit that is raised
 
@@ -162,6 +166,91 @@ divide_at once m h ih more (suc b) c o os a each own rises words labels includes
     let e = unit_raised once m h ih more b c o os a words labels line n false many in
     deep_divide_ends z y more e.0 n.condition)
 
+-- ---- SIGNAL
+
+resumed_of : (c d : Condition) → c ≡ d → IsOfNumbers c → IsResumed d
+resumed_of c d same (inl e) = subst IsResumed same (subst IsResumed (sym e) tt)
+resumed_of c d same (inr e) = subst IsResumed same (subst IsResumed (sym e) tt)
+
+-- where it stands
+record Signal {program : Y.Program} (m : Main program) (h : Home) (o : Outer) (os : List Outer)
+    (condition : Condition) (line index : ℕ) : Type 0
+  where
+    fits : line < 2 ^ 31
+    linked :
+        Linked (links_for program) (linked_code (code_for program)) index
+        (stmt_code o.environment none_taken (Y.Signal condition line))
+
+signal_to :
+    {program : Y.Program} (m : Main program) (h : Home) → IsHome' m h → (o : Outer) (os : List Outer)
+    (labels : List Label) (condition : Condition) (line index : ℕ) → IsResumed condition →
+    Signal m h o os condition line index →
+    RaisesTo (setting_of (block_of m h o os) labels line (most_for program)) condition (code_signalled condition) →
+    Does (block_of m h o os) labels (Y.Signal condition line) index left_over
+signal_to {program} m h ih o os labels condition line index resumed z raises =
+    let inside = z.linked.inside in
+    signal_by (block_of m h o os) labels condition line index left_over (most_for program)
+    (record {
+      act = record { line_fits = z.fits; acts = ih.few };
+      resumed = resumed;
+      statement = z.linked;
+      paid = omega (arith, inside);
+    })
+    raises
+
+-- while one more block may be active, or not
+signal_in :
+    MarkedOnce → {program : Y.Program} (m : Main program) (h : Home) → IsHome' m h → (more b : ℕ) (c : Part)
+    (o : Outer) (os : List Outer) → IsAt m h (suc more) (suc b) c o os → EachBody m more → (own : List Label) →
+    Rises m h (block_of m h o os) own → (labels : List Label) → Includes own labels → (line : ℕ)
+    {condition : Condition} → Newest m h.input h.acts h.past condition →
+    RaisesTo (raise_setting m h o os 0 labels line) condition (code_signalled condition)
+signal_in once {program} m h ih more b c o os a each own rises labels includes line {condition} n =
+    let z = raise_setting m h o os 0 labels line in
+    let y = unit_at m more n.unit n.index in
+    let d = n.unit.condition in
+    subst (λ e. RaisesTo z e (code_signalled e)) n.condition
+    (by_decision (nat_lt (length o.first.state.activations) most_activations)
+    (λ few.
+    let e = unit_raised once m h ih more b c o os a 0 labels line n true few in
+    λ p numbers credits wanted i f among same l paid there.
+    raise_returns z y more e.0
+    (unit_does m h ih more b c o os a each own rises 0 labels includes line n e.0 e.1 few) (code_signalled d)
+    (codes_are d) p numbers credits wanted i f among same l paid there)
+    (λ many.
+    let e = unit_raised once m h ih more b c o os a 0 labels line n false many in
+    λ p numbers credits wanted i f among same l paid there.
+    deep_raise_ends z y more e.0 (code_signalled d) (codes_are d) p numbers credits wanted i f among l paid there))
+
+signal_at :
+    MarkedOnce → {program : Y.Program} (m : Main program) (h : Home) → IsHome' m h → (more blocks : ℕ) (c : Part)
+    (o : Outer) (os : List Outer) → IsAt m h (suc more) blocks c o os → EachBody m more → (own : List Label) →
+    Rises m h (block_of m h o os) own → (labels : List Label) → Includes own labels → (condition : Condition)
+    (line index : ℕ) → Signal m h o os condition line index → InForce m h.input h.acts h.past condition →
+    Does (block_of m h o os) labels (Y.Signal condition line) index left_over
+signal_at once {program} m h ih more blocks c o os a each own rises labels includes condition line index z
+    (inl system) =
+    let routines = raise_routines once program m.loadable in
+    let inside = routines.linked.inside in
+    let here = z.linked.inside in
+    signal_ends (block_of m h o os) labels condition line index left_over
+    (record {
+      act = record { line_fits = z.fits; acts = ih.few };
+      statement = z.linked;
+      paid = omega (arith, inside, here);
+      routines = routines;
+      place = error_routine once program m.loadable;
+    })
+    (subst IsSystem (sym (a.forced condition)) system) (error_at once m h ih (suc more) blocks c o os a)
+signal_at once m h ih more zero c o os a each own rises labels includes condition line index z (inr n) =
+    let some = a.depth.some in absurd (omega (arith, some))
+signal_at once {program} m h ih more (suc b) c o os a each own rises labels includes condition line index z (inr n) =
+    let u = unit_is program m.called m.head (list_of m) n.unit n.placed.is in
+    signal_to m h ih o os labels condition line index (resumed_of n.unit.condition condition n.condition u.condition) z
+    (signal_in once m h ih more b c o os a each own rises labels includes line n)
+
+-- ---- subscripts
+
 subscript_at :
     MarkedOnce → {program : Y.Program} (m : Main program) (h : Home) → IsHome' m h → (more blocks : ℕ) (c : Part)
     (o : Outer) (os : List Outer) → IsAt m h more blocks c o os → (words : ℕ) (labels : List Label) (line : ℕ) →
@@ -221,6 +310,7 @@ puts_of once {program} m h ih more blocks c o os a writes =
       arrays = λ may. a.arrays;
       narrows = λ may. a.narrows;
       parameters = λ x is. absurd (cc is);
+      wordless = refl;
       lists = lists_known program (block_of m h o os) m.memory a.told;
     })
 
@@ -239,7 +329,7 @@ far_of once {program} m h ih more blocks c o os a inner above label among ls lin
     let e = environment_for program m.head in
     let outer = level_of m in
     let level = inner.level in
-    let like = past_like k0 h.past in
+    let like = past_like h.past k0.first in
     let same = made_stacks (main_layer m h.input h.acts) (words_in e) (main_begun m h.input h.acts) in
     let there = label_of (links_for program) (linked_code (code_for program)) (body_for program m.head m.body) e
     none_taken (list_of m) (list_placed once m h.input h.acts) label among in
@@ -300,6 +390,7 @@ pub record Knows (program : Y.Program) (s : Scope) (k : Block) (own : List Label
   pub raises : KnowsRaises s k own (most_for program)
   pub calls : KnowsCalls s k own (most_for program) left_over
   pub jumps : KnowsJumps s k own left_over
+  pub signals : KnowsSignals s k own left_over
   pub puts : s.puts ≡ true → KnowsPuts s k (most_for program)
 
 pub knows_of :
@@ -312,5 +403,8 @@ knows_of once m h ih more blocks c o os a inner each own rises =
       raises = raises_of once m h ih more blocks c o os a each own rises;
       calls = calls_of once m h ih more blocks c o os a each own rises;
       jumps = jumps_of once m h ih (suc more) blocks c o os a inner own;
+      signals = λ labels condition line index includes may fits l.
+          signal_at once m h ih more blocks c o os a each own rises labels includes condition line index
+          (record { fits = fits; linked = l }) (in_force once m h.input h.acts h.past ih.known condition);
       puts = λ may. puts_of once m h ih (suc more) blocks c o os a may;
     }

@@ -1,7 +1,8 @@
 -- What such a program may call: procedures and functions without parameters that call one another, in which the main
 -- procedure's units may be raised, too.
-use Rattle.std.specs.Prelude.{ℕ, zero, suc, ◌&&◌, ◌||◌, ◌==◌, Bool, true, false, List, [], ◌∷◌, length, not, Option}
-use Rattle.std.specs.Prelude.{None, Some, if◌then◌else◌}
+use Rattle.std.specs.Prelude.{ℕ, zero, suc, ◌&&◌, ◌||◌, ◌==◌, Bool, true, false, List, [], ◌∷◌, ◌++◌, length, not}
+use Rattle.std.specs.Prelude.{None, Option, Some, if◌then◌else◌}
+use Rattle.std.specs.List.{list_any}
 use Rattle.pli_language.specs.declared.condition.Condition.{Condition}
 use Rattle.pli_language.specs.declared.condition.Condition.TheVariants as C
 use Rattle.pli_typing.specs.TypedTree as Y
@@ -14,22 +15,25 @@ use Rattle.unit_runs.specs.Establishing.{OnUnit}
 use Rattle.number_runs.specs.Numbers.{Scope, has_none}
 use Rattle.number_headlines.specs.Programs.{body_of, is_body, is_callable, is_valued, numbers_of, places_to}
 
--- ---- the units of a list
+-- ---- the units of a list: of each ON in it, and in the groups, choices and loops of it
 
--- the unit of an ON
-abbrev pub unit_in : Y.Stmt → Option OnUnit
-unit_in (Y.OnUnit condition (Y.BlockOf head body) line) =
-    Some (record { condition = condition; head = head; body = body; line = line })
-unit_in _ = None
+abbrev mutual
+  pub units_in : Y.Stmt → List OnUnit
+  units_in (Y.OnUnit condition (Y.BlockOf head body) line) =
+      record { condition = condition; head = head; body = body; line = line } ∷ []
+  units_in (Y.If condition unit line) = units_in unit
+  units_in (Y.IfElse condition unit otherwise line) = units_in unit ++ units_in otherwise
+  units_in (Y.Do body line) = all_units_in body
+  units_in (Y.DoWhile condition body line) = all_units_in body
+  units_in _ = []
 
--- a list has one for a condition
-abbrev pub is_unit_for : Condition → Option OnUnit → Bool
-is_unit_for c None = false
-is_unit_for c (Some x) = same_condition x.condition c
+  pub all_units_in : Y.Stmts → List OnUnit
+  all_units_in (Y.EndOfList own) = []
+  all_units_in (Y.StmtThen own first rest) = units_in first ++ all_units_in rest
 
+-- it has one for a condition
 abbrev pub has_unit : Condition → Y.Stmts → Bool
-has_unit c (Y.EndOfList own) = false
-has_unit c (Y.StmtThen own first rest) = is_unit_for c (unit_in first) || has_unit c rest
+has_unit c body = list_any (λ x. same_condition x.condition c) (all_units_in body)
 
 -- ---- blocks
 
@@ -45,19 +49,23 @@ scope_in program ns all caller unit writes =
       level = caller.level;
       blocks = places_to (environment_for program caller) caller.level;
       receivers = [];
-      is_function = is_callable program ns caller false true;
-      is_procedure = is_callable program ns caller false false;
+      is_function = is_callable program ns caller 0 true;
+      is_procedure = is_callable program ns caller 0 false;
       gives = false;
-      is_given_function = λ level n. false;
-      is_given_procedure = λ level n. false;
+      locates = false;
+      pointers = [];
+      is_given_function = λ count level n. false;
+      is_given_procedure = λ count level n. false;
       counts = true;
       puts = writes;
       overflows = not (writes && has_unit C.FixedOverflow all);
       divides = not (writes && has_unit C.ZeroDivide all);
       narrows = true;
+      texts = false;
       elements = true;
       own = not unit;
       is_outer = λ level label. unit && ((level == caller.level) && is_among label (labels_in all));
+      signals = λ c. true;
     }
 
 -- it does one or the other

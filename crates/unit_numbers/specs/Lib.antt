@@ -5,9 +5,10 @@ pub mod Headlines
 pub mod Rows
 pub mod GuardRows
 pub mod GroupRows
+pub mod ShiftRows
+pub mod HailRows
 pub mod MendRows
 pub mod WrapRows
 pub mod AgainRows
 pub mod ClimbRows
 pub mod TallyRows
-pub mod Groups

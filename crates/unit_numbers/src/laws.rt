@@ -4,9 +4,11 @@ ghost use Rattle.unit_numbers.specs.AgainRows.{AgainKept};
 ghost use Rattle.unit_numbers.specs.ClimbRows.{ClimbKept};
 ghost use Rattle.unit_numbers.specs.GroupRows.{GroupKept};
 ghost use Rattle.unit_numbers.specs.GuardRows.{GuardKept};
+ghost use Rattle.unit_numbers.specs.HailRows.{HailKept};
 ghost use Rattle.unit_numbers.specs.Headlines.{UnitNumberHeadlinesKept};
 ghost use Rattle.unit_numbers.specs.MendRows.{MendKept};
 ghost use Rattle.unit_numbers.specs.Rows.{HealKept};
+ghost use Rattle.unit_numbers.specs.ShiftRows.{ShiftKept};
 ghost use Rattle.unit_numbers.specs.TallyRows.{TallyKept};
 ghost use Rattle.unit_numbers.specs.WrapRows.{WrapKept};
 
@@ -40,6 +42,20 @@ pub fn guard_kept()
 /// A worked row: ON in a group in a group, whose unit is raised behind it.
 pub fn group_kept()
     ensures { GroupKept }
+{
+    unit_number_headlines_kept();
+}
+
+/// A worked row: units that change in a loop, in choices and in a group with a label, and REVERT and SYSTEM.
+pub fn shift_kept()
+    ensures { ShiftKept }
+{
+    unit_number_headlines_kept();
+}
+
+/// A worked row: SIGNAL of a condition with a unit, and of one without, which ends the run.
+pub fn hail_kept()
+    ensures { HailKept }
 {
     unit_number_headlines_kept();
 }

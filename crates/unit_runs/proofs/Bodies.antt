@@ -20,13 +20,13 @@ use Rattle.run_keeper.specs.RunKeeper.{run_keeper}
 use Rattle.activation_relation.specs.Landing.{closed, either}
 use Rattle.activation_relation.specs.Layers.{Point, services_of}
 use Rattle.run_steps.proofs.Linking.{size_append}
-use Rattle.run_steps.specs.Reach.{Aims, Comes, Family, never}
+use Rattle.run_steps.specs.Reach.{Aims, Comes, Family}
 use Rattle.run_steps.proofs.Reach.{onward}
 use Rattle.block_runs.specs.Bodies.{AtEnd, body_aims}
 use Rattle.block_runs.proofs.CallStatements.{comes_map}
 use Rattle.program_runs.specs.Calls.{AreMade, Callee, IsCall, block_at, body_index, call_of, left_over}
 use Rattle.program_runs.specs.Programs.{IsWhole, Whole, main_of}
-use Rattle.program_runs.specs.Starts.{first_family, no_numbers, start_point, surroundings_of}
+use Rattle.program_runs.specs.Starts.{first_family, no_numbers, start_point, surroundings_of, never_in}
 use Rattle.program_runs.specs.Statements.{AreMarked, IsAmong, Block, Does, EachDoes, IsBegun, ReturnsOut, ReturnsTo}
 use Rattle.program_runs.specs.Statements.{size_in, statement_aims}
 use Rattle.program_runs.proofs.CallStatements.{call_comes}
@@ -91,6 +91,7 @@ abbrev pub first_aims :
     Aims (Unit {0})
 first_aims code goal k height labels rest next' =
     record {
+      limits = goal.limits;
       done = λ c f v r s. Comes code c f v goal (caught k height labels (rest k s) next');
       jumped = λ c f v h label s. Comes code c f v goal (caught k height labels (Jump h label s) next');
       returned = λ c f v r s. goal.returned c f v r s;
@@ -101,12 +102,12 @@ comes_first :
     (labels : List Label) (flow : Flow (Unit {0})) (rest : Meaning (Unit {0})) (next' : Label → Meaning (Unit {0})) →
     Comes code c f v (first_aims code goal k height labels rest next') flow →
     Comes code c f v goal (caught k height labels (flow_on k flow (λ u. rest)) next')
-comes_first k height labels (Normal r s) rest next' o = o.to
-comes_first k height labels (Jump h label s) rest next' o = o.to
+comes_first k height labels (Normal r s) rest next' o = record { to = λ early. (o.to early).to early }
+comes_first k height labels (Jump h label s) rest next' o = record { to = λ early. (o.to early).to early }
 comes_first k height labels (Return r s) rest next' o = record { to = o.to }
 comes_first k height labels (F.Ended s) rest next' o = record { to = o.to }
 comes_first k height labels (Paused s) rest next' o = record { to = o.to }
-comes_first k height labels Stuck rest next' o = absurd o.to
+comes_first k height labels Stuck rest next' o = record { to = o.to }
 
 pub own_return :
     {k : Block} {left' c : ℕ} {f : Family} {v : Services} {r : Option BasicValue} {s : State} (body : Y.Stmts)
@@ -173,7 +174,7 @@ list_ends k body index left' h marks each p numbers f o there =
     let inside = h.linked.inside in
     let enough = h.enough in
     let more = o.later.acts in
-    comes_map (statement_aims k [] acts k.call.end left' left') (body_aims k.call left') flow
+    comes_map (statement_aims k [] acts k.call.end left' left') (body_aims k.call left') refl flow
     (λ c' f' v' r s q. at_end h.begun h.function h.registers q)
     (λ c' f' v' height label s q. no_jump h.outers q)
     (λ c' f' v' r s q. own_return body index h q)
@@ -205,7 +206,7 @@ first_ends k first rest index left' is p numbers f o there =
     (M.statements k.around (before_rest first rest)) (Some l) in
     comes_map (statement_aims k [] p.state.world.acts (index + size_in k first) 0 left')
     (first_aims k.call.code (body_aims k.call left') w.acts height (M.labels_in rest) (M.statements k.around rest None)
-    next')
+    next') refl
     (M.statement k.around first w.acts p.state)
     (λ c' f' v' r s q.
     subst (λ u. Comes k.call.code c' f' v' (body_aims k.call left')
@@ -241,7 +242,7 @@ on_ends k x rest index left' is p numbers f o there =
     (M.statements k.around (before_rest first rest)) (Some l) in
     comes_map (statement_aims k' [] p.state.world.acts (index + size_in k first) 0 left')
     (first_aims k.call.code (body_aims k.call left') w.acts height (M.labels_in rest) (M.statements k.around rest None)
-    next')
+    next') refl
     (M.statement k.around first w.acts p.state)
     (λ c' f' v' r s q.
     subst (λ u. Comes k.call.code c' f' v' (body_aims k.call left')
@@ -267,7 +268,7 @@ pub unit_program_runs :
     BodyDoes (block_at (surroundings_of k.image) k.image.code (main_of k) (start_point k.image) no_numbers) k.main.body
     (body_index (main_of k)) left_over) →
     Comes k.image.code 0 (first_family first (services_of (start_point k.image))) (services_of (start_point k.image))
-    never (M.run k.program (suc k.image.acts) k.image.acts (first_state k.image.input))
+    (never_in k.image) (M.run k.program (suc k.image.acts) k.image.acts (first_state k.image.input))
 unit_program_runs keeps k first h body =
     program_comes keeps k first h
     (λ b o f at. body b (block_at (surroundings_of k.image) k.image.code (main_of k) (start_point k.image)

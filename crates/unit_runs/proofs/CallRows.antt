@@ -36,12 +36,13 @@ use Rattle.activation_relation.specs.Layers.{Point, services_of}
 use Rattle.run_steps.specs.Items.{Linked}
 use Rattle.run_steps.proofs.Jumps.{back_of, first_of, front_of, rest_of}
 use Rattle.run_steps.proofs.Linking.{has_items, linked_length}
-use Rattle.run_steps.specs.Reach.{Comes, never}
+use Rattle.run_steps.specs.Reach.{Comes}
 use Rattle.block_runs.proofs.CallStatements.{given_code}
 use Rattle.program_runs.specs.Calls.{AreMade, Callee, IsCallee, block_at, body_index, left_over}
 use Rattle.program_runs.specs.Procedures.{begin_of, block_of, end_of, frame_for, procedure_code}
 use Rattle.program_runs.specs.Programs.{IsWhole, Whole, main_of}
 use Rattle.program_runs.specs.Starts.{first_family, image_parts, main_called, no_numbers, start_of, start_point}
+use Rattle.program_runs.specs.Starts.{never_in}
 use Rattle.program_runs.specs.Starts.{surroundings_of}
 use Rattle.program_runs.specs.Rows.{row_head}
 use Rattle.program_runs.specs.Statements.{Block, Does, EachDoes, IsAmong, IsBegun}
@@ -604,7 +605,7 @@ lend_is input first acts few bytes =
 pub lend_runs :
     Keeps run_keeper → (input first : List ℕ) (acts : ℕ) → acts + 1 < 2 ^ 64 → length first ≡ memory_size →
     Comes (linked_code lend_code) 0 (first_family first (services_of (start_point (lend_image input acts))))
-    (services_of (start_point (lend_image input acts))) never
+    (services_of (start_point (lend_image input acts))) (never_in (lend_image input acts))
     (run lend_program (suc acts) acts (first_state input))
 lend_runs keeps input first acts few bytes =
     unit_program_runs keeps (lend_whole input acts) first (lend_is input first acts few bytes)

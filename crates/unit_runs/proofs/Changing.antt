@@ -26,7 +26,7 @@ use Rattle.run_steps.proofs.Jumps.{back_of}
 use Rattle.run_steps.proofs.Linking.{size_append}
 use Rattle.run_steps.specs.Reach.{Aims, Closed, Comes, Family, Reach, before, cost, reached}
 use Rattle.run_steps.proofs.Reach.{comes_on, onward, reach_then, reach_with, stay}
-use Rattle.block_runs.specs.Machines.{AreIn, IsIn}
+use Rattle.block_runs.specs.Machines.{AreIn, IsIn, limits_of}
 use Rattle.block_runs.proofs.CallStatements.{comes_map}
 use Rattle.block_runs.specs.Bodies.{body_aims}
 use Rattle.program_runs.specs.Statements.{AreMarked, Block, GoesOn, IsAmong, IsBegun, JumpsOut, JumpsTo, LandsAt}
@@ -148,6 +148,7 @@ past_later {k} {acts = acts} {index = index} {wanted = wanted} {s = s} r o =
 abbrev inside_aims : Block → Y.Stmts → (index acts end wanted left' : ℕ) → Aims (Unit {0})
 inside_aims k body index acts end wanted left' =
     record {
+      limits = limits_of k.call.surroundings;
       done = λ c f v r s. GoesPast k body index acts end wanted c f v s;
       jumped = λ c f v height label s. JumpsIn k body index acts c f v height label s;
       returned = λ c f v r s. ReturnsTo k left' c f v r s;
@@ -203,7 +204,7 @@ pub list_since :
     acts ≤ more → Comes k.call.code c f v (list_aims k more end wanted left') flow →
     Comes k.call.code c f v (list_aims k acts end wanted left') flow
 list_since {k} {acts} {more} {end} {wanted} {left'} {flow = flow} few o =
-    comes_map (list_aims k more end wanted left') (list_aims k acts end wanted left') flow
+    comes_map (list_aims k more end wanted left') (list_aims k acts end wanted left') refl flow
     (λ c f v r s q. record { first = q.first; begun = q.begun; goes = goes_since few q.goes })
     (λ c f v height label s q.
     outs_since k.call.surroundings k.call.code k.outers acts more c f v height label (closed s) few q)
@@ -216,7 +217,7 @@ past_since :
     Comes k.call.code c f v (past_aims k body start more end wanted left') flow →
     Comes k.call.code c f v (past_aims k body start acts end wanted left') flow
 past_since {k} {body} {start} {acts} {more} {end} {wanted} {left'} {flow = flow} few o =
-    comes_map (past_aims k body start more end wanted left') (past_aims k body start acts end wanted left') flow
+    comes_map (past_aims k body start more end wanted left') (past_aims k body start acts end wanted left') refl flow
     (λ c f v r s q. record { past = q.past; known = q.known; goes = goes_since few q.goes })
     (λ c f v height label s q.
     outs_since k.call.surroundings k.call.code k.outers acts more c f v height label (closed s) few q)
@@ -251,6 +252,7 @@ record GoesIn (k : Block) (body : Y.Stmts) (index acts end credits : ℕ) (f : F
 abbrev step_aims : Block → Y.Stmts → (index left' acts end : ℕ) → Aims (Unit {0})
 step_aims k body index left' acts end =
     record {
+      limits = limits_of k.call.surroundings;
       done = λ c f v r s. GoesIn k body index acts end c f v s;
       jumped = λ c f v height label s. JumpsIn k body index acts c f v height label s;
       returned = λ c f v r s. ReturnsTo k left' c f v r s;
@@ -269,7 +271,7 @@ on_comes {k} {body} {index} {left' = left'} z x i acts c past known on stands p 
     let known' : IsPast k body index past' = (on, stands, known) in
     let behind = i + size_in k (on_of x) in
     comes_map (statement_aims (after k past') (M.labels_in body) p.state.world.acts behind 0 left')
-    (step_aims k body index left' acts behind) (M.statement k.around (on_of x) k.call.surroundings.acts p.state)
+    (step_aims k body index left' acts behind) refl (M.statement k.around (on_of x) k.call.surroundings.acts p.state)
     (λ c' f' v' r s q. record { past = past'; known = known'; goes = goes_since since q })
     (λ c' f' v' height label s q. jumps_of past' known' since q)
     (λ c' f' v' r s q. record { to = q.to })
@@ -293,7 +295,7 @@ step_comes {k} {body} {index} {left' = left'} z stmt i acts c past known (inr do
     there =
     let behind = i + size_in k stmt in
     comes_map (statement_aims (after k past) (M.labels_in body) p.state.world.acts behind 0 left')
-    (step_aims k body index left' acts behind) (M.statement k.around stmt k.call.surroundings.acts p.state)
+    (step_aims k body index left' acts behind) refl (M.statement k.around stmt k.call.surroundings.acts p.state)
     (λ c' f' v' r s q. record { past = past; known = known; goes = goes_since since q })
     (λ c' f' v' height label s q. jumps_of past known since q)
     (λ c' f' v' r s q. record { to = q.to })
@@ -370,7 +372,8 @@ statements_come {k} z (Y.EndOfList own) i acts c past known x p numbers f since 
     let n = marked_size k.environment.block own in
     let ends = x.ends in
     record {
-      to = ends_here z acts c past known p numbers f since o fits.0 (moved_in k f (omega (arith, n, ends)) there);
+      to = λ early.
+          ends_here z acts c past known p numbers f since o fits.0 (moved_in k f (omega (arith, n, ends)) there);
     }
 statements_come {k} {body} {index} {end} {wanted} {left'} z (Y.StmtThen own first rest) i acts c past known x p
     numbers f since o fits there =
@@ -389,7 +392,7 @@ statements_come {k} {body} {index} {end} {wanted} {left'} z (Y.StmtThen own firs
     let flow = M.statement k.around first w.acts p.state in
     comes_on w.acts flow next'
     (comes_map (step_aims k body index left' p.state.world.acts (j + size_of one))
-    (before k.call.code goal w.acts next') flow
+    (before k.call.code goal w.acts next') refl flow
     (λ c' f' v' r s q.
     let later = q.goes.since in
     subst (λ u. Comes k.call.code c' f' v' goal (M.statements k.around rest None w.acts u)) (sym q.goes.state)
@@ -432,7 +435,7 @@ sought_come {k} z label (Y.EndOfList own) i acts at past known x marks p numbers
     let ends = x.ends in
     let here = marks label among in
     record {
-      to = ends_here z acts 0 past known p numbers f since o (omega arith)
+      to = λ early. ends_here z acts 0 past known p numbers f since o (omega arith)
           (moved_in k f (omega (arith, n, here, place, ends)) there);
     }
 sought_come {k} {body} {index} {end} {wanted} {left'} z label (Y.StmtThen own first rest) i acts at past known x
@@ -476,7 +479,7 @@ comes_caught :
     (caught k.call.surroundings.acts height (M.labels_in body) flow next')
 comes_caught z height (Normal r s) next' same goes o = record { to = o.to }
 comes_caught {k} {body} {index} {end} {wanted} {left'} {acts} {c} {f} {v} z height (Jump h label s) next' same goes o =
-    by o.to.to
+    record { to = λ early. (by (o.to early).to).to early }
   where
     on : Flow (Unit {0})
     on = next' label k.call.surroundings.acts s
@@ -500,11 +503,11 @@ comes_caught {k} {body} {index} {end} {wanted} {left'} {acts} {c} {f} {v} z heig
         let low = outs_low w k.call.code k.outers k.call.point acts c f v h label (closed s) z.begun.outer out in
         subst (λ t. goal (cond (t && is_among label (M.labels_in body)) on (Jump h label s)))
         (sym (eqb-other h height (omega (arith, low, same))))
-        (record { to = out })
+        (record { to = λ early. out })
 comes_caught z height (Return r s) next' same goes o = record { to = o.to }
 comes_caught z height (F.Ended s) next' same goes o = record { to = o.to }
 comes_caught z height (Paused s) next' same goes o = record { to = o.to }
-comes_caught z height Stuck next' same goes o = absurd o.to
+comes_caught z height Stuck next' same goes o = record { to = o.to }
 
 -- ---- turns of the list
 
@@ -611,7 +614,7 @@ pub changing_goes :
 changing_goes k body index wanted left' c p numbers f begun few marks all o l fits there =
     let acts = p.state.world.acts in
     let end = index + size_of (stmts_code k.environment none_taken body) in
-    comes_map (past_aims k body index acts end wanted left') (list_aims k acts end wanted left')
+    comes_map (past_aims k body index acts end wanted left') (list_aims k acts end wanted left') refl
     (M.list k.around body k.call.surroundings.acts p.state)
     (λ c' f' v' r s q. record {
       first = past_point q.past k.first;
@@ -636,7 +639,7 @@ changing_ends k body index left' h marks all p numbers f o there =
     let more = o.later.acts in
     let inside = h.linked.inside in
     let flow = M.list k.around body w.acts p.state in
-    comes_map (list_aims k acts k.call.end left' left') (body_aims k.call left') flow
+    comes_map (list_aims k acts k.call.end left' left') (body_aims k.call left') refl flow
     (λ c' f' v' r s q. at_end {k = from_point k q.first} q.begun h.function h.registers q.goes)
     (λ c' f' v' height label s q.
     no_jump {k = k} {acts = acts} {c = c'} {f = f'} {v = v'} {height = height} {label = label} {s = s} h.outers

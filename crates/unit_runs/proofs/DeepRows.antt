@@ -36,11 +36,12 @@ use Rattle.activation_relation.specs.Layers.{services_of}
 use Rattle.run_steps.specs.Items.{Linked}
 use Rattle.run_steps.proofs.Jumps.{back_of, first_of, front_of, rest_of}
 use Rattle.run_steps.proofs.Linking.{has_items, linked_length}
-use Rattle.run_steps.specs.Reach.{Comes, never}
+use Rattle.run_steps.specs.Reach.{Comes}
 use Rattle.program_runs.specs.Calls.{block_at, left_over}
 use Rattle.program_runs.specs.Procedures.{begin_of, end_of, procedure_code}
 use Rattle.program_runs.specs.Programs.{IsWhole, Whole, main_of}
 use Rattle.program_runs.specs.Starts.{first_family, image_parts, main_called, no_numbers, start_of, start_point}
+use Rattle.program_runs.specs.Starts.{never_in}
 use Rattle.program_runs.specs.Starts.{surroundings_of}
 use Rattle.program_runs.specs.Statements.{Block, Does, IsAmong, IsBegun, own_height}
 use Rattle.program_runs.specs.Variables as D
@@ -638,7 +639,7 @@ deep_is input first acts few bytes =
 pub deep_runs :
     Keeps run_keeper → (input first : List ℕ) (acts : ℕ) → acts + 1 < 2 ^ 64 → length first ≡ memory_size →
     Comes (linked_code deep_code) 0 (first_family first (services_of (start_point (deep_image input acts))))
-    (services_of (start_point (deep_image input acts))) never
+    (services_of (start_point (deep_image input acts))) (never_in (deep_image input acts))
     (run deep_program (suc acts) acts (first_state input))
 deep_runs keeps input first acts few bytes =
     unit_program_runs keeps (deep_whole input acts) first (deep_is input first acts few bytes)

@@ -582,7 +582,7 @@ unit_does k labels x index left' h p numbers c wanted f o paid there =
     let o' = acted_among x.line o less in
     let r = established_reach k x index 0 g h o' (back_of one rest h.statement) there' in
     record {
-      to = done_owing closed debt wanted (omega arith) r tt (with_unit x at p').state
+      to = λ early. done_owing closed debt wanted (omega arith) r tt (with_unit x at p').state
           (λ g' at'. record {
             point = with_unit x at p';
             numbers = numbers;

@@ -1,5 +1,6 @@
 -- Lists with ON among them go on behind them in any block, so begin blocks and units with such lists do as they mean.
 use Rattle.std.proofs.Common.{◌≡◌, ℕ, ◌+◌, ◌^◌, ◌<◌, ◌≤◌, List, [], ◌++◌, Some, None, Bool, sym, ◌∙◌, subst, arith}
+use Rattle.std.proofs.Common.{refl}
 use Rattle.std.specs.Prelude.{◌&&◌, cond}
 use Rattle.pli_typing.specs.TypedTree as Y
 use Rattle.pli_language.specs.declared.condition.Condition.TheVariants as C
@@ -53,7 +54,7 @@ each_list k body index left' z marks each p numbers c wanted f o fits there =
     let end = index + size_of (stmts_code k.environment none_taken body) in
     let enough = z.enough in
     let more = o.later.acts in
-    comes_map (statement_aims k [] acts end wanted left') (list_aims k acts end wanted left')
+    comes_map (statement_aims k [] acts end wanted left') (list_aims k acts end wanted left') refl
     (M.list k.around body w.acts p.state)
     (λ c' f' v' r s q. record { first = k.first; begun = z.begun; goes = q })
     (λ c' f' v' height label s q. out_of_all q)
@@ -84,7 +85,7 @@ out_caught k acts end wanted left' height h c f v labels label s next' b same ou
     subst (λ (t : Bool). Comes k.call.code c f v (list_aims k acts end wanted left')
     (cond (t && is_among label labels) (next' label w.acts s) (Jump h label s)))
     (sym (eqb-other h height (omega (arith, low, same))))
-    (record { to = out })
+    (record { to = λ early. out })
 
 pub first_list :
     (k : Block) (first : Y.Stmt) (rest : Y.Stmts) (index left' : ℕ) → IsList k (before_rest first rest) index →
@@ -107,7 +108,7 @@ first_list k first rest index left' z does goes p numbers c wanted f o fits ther
     let next' : Label → Meaning (Unit {0}) = λ l. list_from m height (M.labels_in rest)
     (M.statements k.around (before_rest first rest)) (Some l) in
     comes_map (statement_aims k [] acts (index + size_in k first) 0 left')
-    (first_aims k.call.code goal w.acts height (M.labels_in rest) (M.statements k.around rest None) next')
+    (first_aims k.call.code goal w.acts height (M.labels_in rest) (M.statements k.around rest None) next') refl
     (M.statement k.around first w.acts p.state)
     (λ c' f' v' r s q.
     subst (λ u. Comes k.call.code c' f' v' goal
@@ -132,7 +133,7 @@ from_behind :
     Comes k.call.code c f v (list_aims (behind_on k x at) acts end wanted left') flow →
     Comes k.call.code c f v (list_aims k acts end wanted left') flow
 from_behind k x at acts end wanted left' c f v flow o =
-    comes_map (list_aims (behind_on k x at) acts end wanted left') (list_aims k acts end wanted left') flow
+    comes_map (list_aims (behind_on k x at) acts end wanted left') (list_aims k acts end wanted left') refl flow
     (λ c' f' v' r s q. record { first = q.first; begun = q.begun; goes = q.goes })
     (λ c' f' v' height label s q. q)
     (λ c' f' v' r s q. record { to = q.to })
@@ -162,7 +163,7 @@ on_list k x rest index left' z on goes p numbers c wanted f o fits there =
     let next' : Label → Meaning (Unit {0}) = λ l. list_from m height (M.labels_in rest)
     (M.statements k.around (before_rest first rest)) (Some l) in
     comes_map (statement_aims k' [] acts (index + size_in k first) 0 left')
-    (first_aims k.call.code goal w.acts height (M.labels_in rest) (M.statements k.around rest None) next')
+    (first_aims k.call.code goal w.acts height (M.labels_in rest) (M.statements k.around rest None) next') refl
     (M.statement k.around first w.acts p.state)
     (λ c' f' v' r s q.
     subst (λ u. Comes k.call.code c' f' v' goal

@@ -37,11 +37,12 @@ use Rattle.activation_relation.specs.Layers.{services_of}
 use Rattle.run_steps.specs.Items.{Linked}
 use Rattle.run_steps.proofs.Jumps.{back_of, first_of, front_of, rest_of}
 use Rattle.run_steps.proofs.Linking.{has_items, linked_length}
-use Rattle.run_steps.specs.Reach.{Comes, never}
+use Rattle.run_steps.specs.Reach.{Comes}
 use Rattle.program_runs.specs.Calls.{block_at, left_over}
 use Rattle.program_runs.specs.Procedures.{begin_of, end_of, procedure_code}
 use Rattle.program_runs.specs.Programs.{IsWhole, Whole, main_of}
 use Rattle.program_runs.specs.Starts.{first_family, image_parts, main_called, no_numbers, start_of, start_point}
+use Rattle.program_runs.specs.Starts.{never_in}
 use Rattle.program_runs.specs.Starts.{surroundings_of}
 use Rattle.program_runs.specs.Statements.{AreMarked, Block, Does, IsBegun, StandAt, as_outer, own_height}
 use Rattle.program_runs.specs.Variables as D
@@ -598,7 +599,7 @@ loop_is input first acts few bytes =
 pub loop_runs :
     Keeps run_keeper → (input first : List ℕ) (acts : ℕ) → acts + 1 < 2 ^ 64 → length first ≡ memory_size →
     Comes (linked_code loop_code) 0 (first_family first (services_of (start_point (loop_image input acts))))
-    (services_of (start_point (loop_image input acts))) never
+    (services_of (start_point (loop_image input acts))) (never_in (loop_image input acts))
     (run loop_program (suc acts) acts (first_state input))
 loop_runs keeps input first acts few bytes =
     unit_program_runs keeps (loop_whole input acts) first (loop_is input first acts few bytes)

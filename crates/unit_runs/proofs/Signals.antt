@@ -89,7 +89,7 @@ signal_does k labels x line index left' most more z h does p numbers c wanted f 
     subst (Comes k.call.code 0 g (services_of p') (statement_aims k labels acts end wanted left'))
     (sym (signal_means (at_line k.around line) condition w.acts p'.state z.resumed))
     (comes_map (raise_aims setting p' numbers (i + size_of raise') wanted)
-    (statement_aims k labels acts end wanted left') (R.raised (at_line k.around line) condition n w.acts p'.state)
+    (statement_aims k labels acts end wanted left') refl (R.raised (at_line k.around line) condition n w.acts p'.state)
     (λ c' f' v' r s q.
     let since = q.since in
     record {

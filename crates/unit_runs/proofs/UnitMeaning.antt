@@ -114,6 +114,7 @@ unit_means around inner c head body more n k a s enter same kind few found =
 abbrev pub within : Aims (Unit {0}) → Aims (Unit {0})
 within aims =
     record {
+      limits = aims.limits;
       done = λ c f v r s. aims.done c f v tt (closed s);
       jumped = λ c f v height label s. aims.jumped c f v height label (closed s);
       returned = λ c f v r s. aims.done c f v tt (closed s);

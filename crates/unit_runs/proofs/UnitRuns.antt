@@ -60,6 +60,7 @@ use Rattle.unit_runs.proofs.UnitBlocks.{leaves_by_jump, premises, waiting}
 use Rattle.unit_runs.proofs.UnitEntries as U
 use Rattle.unit_runs.proofs.UnitMeaning.{behind_raise, comes_returned, unit_body, unit_means, within, within_closed}
 use Rattle.unit_runs.proofs.UnitRaises.{Finding, IsFinding, raise_finds}
+use Rattle.block_runs.proofs.Early.{comes_early}
 
 -- ---- the point behind the act of a raise
 
@@ -84,7 +85,7 @@ raised_among {k} {numbers} {p} c n o less =
       stands = raised_stands w p c n o.stands less;
       image = record { keeper = i.keeper; layout = i.layout; parts = i.parts; even = i.even };
       later = later_then k.first p (raised_at c n p) o.later (raised_later c n p);
-      few = few_made w p (raised_at c n p) o.few (omega arith) (omega arith);
+      few = o.few;
       entries = o.entries;
       others = o.others;
       words = o.words;
@@ -189,7 +190,7 @@ list_goes z h wanted f o goes there =
     let since = h.since in
     let owed = owing k.call.code (debt_of x) (goal_of z wanted) in
     let flow = M.list u.around x.unit.body w.acts u.first.state in
-    comes_map (list_aims u acts (end_index x) left_over left_over) (within owed) flow
+    comes_map (list_aims u acts (end_index x) left_over left_over) (within owed) refl flow
     (λ c' f' v' r s q. ended_owing z h left_over wanted c' f' v' None s (end_linked h)
     (at_end {k = from_point u q.first} q.begun refl (omega arith) q.goes))
     (λ c' f' v' height label s q i0 f0 v0 from. jumps_repaid {k = k} (debt_of x) from
@@ -296,6 +297,8 @@ raise_comes k x more h does n codes p numbers c wanted index f o line l paid the
       inside = omega (arith, size, inside);
       linked = l;
     } in
+    comes_early w refl there
+    (λ early.
     comes_owing debt (R.raised k.around condition n w.acts p.state)
     (comes_on w.acts (act (raising condition n) w.acts p.state) next'
     (raise_finds finding (before_closed w.acts next' (owing_closed code debt goal)) (c + debt) f is
@@ -315,7 +318,7 @@ raise_comes k x more h does n codes p numbers c wanted index f o line l paid the
       raised = h;
       is = of;
       made = d.0;
-      few = few_made w q (unit_block k x r).first o'.few d.0.few (omega (arith, same));
+      few = few_made w p (unit_block k x r).first early d.0.few less;
       since = omega arith;
       line = refl;
       back = omega (arith, linked, small');
@@ -326,7 +329,7 @@ raise_comes k x more h does n codes p numbers c wanted index f o line l paid the
     h.kind (subst (λ xs. nat_lt (length xs) most_activations ≡ true) (sym o.later.activations) h.shallow) forced))
     (comes_returned w.acts (unit_body x.around x.unit.head x.unit.body w.acts state)
     (unit_goes z here wanted g d.1
-    (λ b. ((at b).0, record { parent = (at b).1.0; return = (at b).1.1 })))))))
+    (λ b. ((at b).0, record { parent = (at b).1.0; return = (at b).1.1 }))))))))
 
 -- of the condition, however it is called
 raise_as :
@@ -380,7 +383,7 @@ overflow_by k raises p numbers taken c index given f o line registers small' l p
     (saved_reach k taken 0 g registers c f given small' (front_of first (raise' ++ back) l)
     (λ b. known_word k.block g (at b)))
     (λ f1 at1.
-    comes_map (raise_aims k p held (i + size_of raise') wanted) (word_aims k.block k.labels y given)
+    comes_map (raise_aims k p held (i + size_of raise') wanted) (word_aims k.block k.labels y given) refl
     (R.raised k.around C.FixedOverflow fixed_overflow_code w.acts p.state)
     (λ c' f' v' r s q.
     let h' = point_frame q.among.stands q.among.image in
@@ -428,7 +431,7 @@ each_goes k x more h does r is =
       λ b o enough marks l f there.
           let inside = l.inside in
           comes_map (statement_aims u [] acts (end_index x) left_over left_over)
-          (list_aims u acts (end_index x) left_over left_over)
+          (list_aims u acts (end_index x) left_over left_over) refl
           (M.list u.around x.unit.body k.block.call.surroundings.acts u.first.state)
           (λ c' f' v' r' s q. record { first = u.first; begun = b; goes = q })
           (λ c' f' v' height label s q. out_of_all q)

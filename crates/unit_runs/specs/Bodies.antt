@@ -10,12 +10,12 @@ use Rattle.pli_coding.specs.Statements.{stmts_code}
 use Rattle.activation_relation.specs.Landing.{is_begin}
 use Rattle.activation_relation.specs.Layers.{Point, services_of}
 use Rattle.run_steps.specs.Items.{Linked}
-use Rattle.run_steps.specs.Reach.{Comes, Family, never}
+use Rattle.run_steps.specs.Reach.{Comes, Family}
 use Rattle.block_runs.specs.Bodies.{body_aims}
 use Rattle.block_runs.specs.Machines.{AreIn}
 use Rattle.program_runs.specs.Calls.{AreMade, Callee, IsCall, block_at, body_index, call_of, left_over}
 use Rattle.program_runs.specs.Programs.{IsWhole, Whole, main_of}
-use Rattle.program_runs.specs.Starts.{first_family, no_numbers, start_point, surroundings_of}
+use Rattle.program_runs.specs.Starts.{first_family, no_numbers, start_point, surroundings_of, never_in}
 use Rattle.program_runs.specs.Statements.{AreMarked, Block, Does, EachDoes, IsAmong, IsBegun, size_in}
 use Rattle.unit_runs.specs.Establishing.{IsOn, OnUnit, behind_on, on_of}
 
@@ -86,4 +86,4 @@ UnitProgramsRun =
     BodyDoes (block_at (surroundings_of k.image) k.image.code (main_of k) (start_point k.image) no_numbers) k.main.body
     (body_index (main_of k)) left_over) →
     Comes k.image.code 0 (first_family first (services_of (start_point k.image))) (services_of (start_point k.image))
-    never (run k.program (suc k.image.acts) k.image.acts (first_state k.image.input))
+    (never_in k.image) (run k.program (suc k.image.acts) k.image.acts (first_state k.image.input))

@@ -19,10 +19,10 @@ use Rattle.pli_coding.specs.Statements.{block_held, block_words, stmt_code}
 use Rattle.storage_relation.specs.Versions.{no_constants}
 use Rattle.activation_relation.specs.Chains.{UnitPlaces}
 use Rattle.activation_relation.specs.Layers.{services_of}
-use Rattle.run_steps.specs.Reach.{Comes, never}
+use Rattle.run_steps.specs.Reach.{Comes}
 use Rattle.program_runs.specs.Procedures.{Procedure, begin_of, procedure_code}
 use Rattle.program_runs.specs.Rows.{row_head}
-use Rattle.program_runs.specs.Starts.{Image, first_family, image_parts, start_of, start_point}
+use Rattle.program_runs.specs.Starts.{Image, first_family, image_parts, start_of, start_point, never_in}
 use Rattle.expression_runs.specs.Assignments.{assignment}
 use Rattle.expression_runs.specs.Variables.{Spot, number_declared, whole}
 use Rattle.unit_runs.specs.Establishing.{OnUnit, on_of, unit_index, unit_of}
@@ -157,7 +157,7 @@ pub record LendRan : Type 0 where
   pub runs :
       (input first : List ℕ) (acts : ℕ) → acts + 1 < 2 ^ 64 → length first ≡ memory_size →
       Comes (linked_code lend_code) 0 (first_family first (services_of (start_point (lend_image input acts))))
-      (services_of (start_point (lend_image input acts))) never
+      (services_of (start_point (lend_image input acts))) (never_in (lend_image input acts))
       (run lend_program (suc acts) acts (first_state input))
   -- that ends with one condition raised: what the procedure subtracts is the 1 that the unit of its caller assigned
   pub ends :

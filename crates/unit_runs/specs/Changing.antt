@@ -18,7 +18,7 @@ use Rattle.activation_relation.specs.Landing.{closed}
 use Rattle.activation_relation.specs.Layers.{Point, services_of}
 use Rattle.run_steps.specs.Items.{Linked}
 use Rattle.run_steps.specs.Reach.{Aims, Comes, Family, cost}
-use Rattle.block_runs.specs.Machines.{AreIn}
+use Rattle.block_runs.specs.Machines.{AreIn, limits_of}
 use Rattle.program_runs.specs.Statements.{AreMarked, Block, Does, GoesOn, IsAmong, IsBegun, JumpsOut, ReturnsTo}
 use Rattle.program_runs.specs.Statements.{own_height, size_in}
 use Rattle.expression_runs.specs.Assignments.{setting_of}
@@ -75,6 +75,7 @@ pub record GoesPast (k : Block) (body : Y.Stmts) (start acts index wanted credit
 abbrev pub past_aims : Block → Y.Stmts → (start acts index wanted left' : ℕ) → Aims (Unit {0})
 past_aims k body start acts index wanted left' =
     record {
+      limits = limits_of k.call.surroundings;
       done = λ c f v r s. GoesPast k body start acts index wanted c f v s;
       jumped = λ c f v height label s.
           JumpsOut k.call.surroundings k.call.code k.outers acts c f v height label (closed s);

@@ -20,10 +20,10 @@ use Rattle.pli_coding.specs.Statements.{unit_variables, unit_words}
 use Rattle.storage_relation.specs.Versions.{no_constants}
 use Rattle.activation_relation.specs.Chains.{UnitPlaces}
 use Rattle.activation_relation.specs.Layers.{services_of}
-use Rattle.run_steps.specs.Reach.{Comes, never}
+use Rattle.run_steps.specs.Reach.{Comes}
 use Rattle.program_runs.specs.Procedures.{Procedure, begin_of, procedure_code}
 use Rattle.program_runs.specs.Rows.{row_head}
-use Rattle.program_runs.specs.Starts.{Image, first_family, image_parts, start_of, start_point}
+use Rattle.program_runs.specs.Starts.{Image, first_family, image_parts, start_of, start_point, never_in}
 use Rattle.expression_runs.specs.Assignments.{assignment}
 use Rattle.expression_runs.specs.Variables.{Spot, number_declared, whole}
 use Rattle.unit_runs.specs.Establishing.{OnUnit, on_of, unit_index, unit_of}
@@ -168,7 +168,7 @@ pub record DeepRan : Type 0 where
   pub runs :
       (input first : List ℕ) (acts : ℕ) → acts + 1 < 2 ^ 64 → length first ≡ memory_size →
       Comes (linked_code deep_code) 0 (first_family first (services_of (start_point (deep_image input acts))))
-      (services_of (start_point (deep_image input acts))) never
+      (services_of (start_point (deep_image input acts))) (never_in (deep_image input acts))
       (run deep_program (suc acts) acts (first_state input))
   -- that ends with two raised: the unit subtracts the 1 that its own unit assigned
   pub ends :

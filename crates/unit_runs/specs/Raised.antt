@@ -31,7 +31,7 @@ use Rattle.run_steps.specs.Items.{Linked}
 use Rattle.run_steps.specs.Reach.{Aims, Comes, Family, Reach, cost}
 use Rattle.block_runs.specs.Beginnings.{Beginning, begun_point}
 use Rattle.block_runs.specs.Bodies.{Called}
-use Rattle.block_runs.specs.Machines.{AreIn, IsImage, IsIn, acted}
+use Rattle.block_runs.specs.Machines.{AreIn, IsImage, IsIn, acted, limits_of}
 use Rattle.program_runs.specs.Calls.{left_over}
 use Rattle.program_runs.specs.Statements.{AreMarked, Block, EachDoes, IsAmong, IsBegun, JumpsTo, as_outer}
 use Rattle.expression_runs.specs.Raises.{Routines}
@@ -269,6 +269,7 @@ pub record IsBehind (k : Setting) (p : Point) (numbers : ℕ → ℕ) (index wan
 abbrev pub raise_aims : Setting → Point → (numbers : ℕ → ℕ) → (index wanted : ℕ) → Aims (Unit {0})
 raise_aims k p numbers index wanted =
     record {
+      limits = limits_of k.block.call.surroundings;
       done = λ c f v r s. IsBehind k p numbers index wanted c f v s;
       jumped = λ c f v height label s. JumpsTo k.block k.labels p.state.world.acts c f v height label s;
       returned = λ c f v r s. ⊥;

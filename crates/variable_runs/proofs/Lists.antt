@@ -120,7 +120,7 @@ next_lives w p x φ φs is lives =
 
 -- ---- all of them
 
-all_stand :
+pub all_stand :
     (w : Surroundings) (code : List Instr) (p : Point) (φ : Layer) (φs : List Layer) (xs : List Declared) →
     AreDeclared w p φ φs xs → Stands w p × IsImage w code p →
     Stands w (all_made w.parts φ xs p) × IsImage w code (all_made w.parts φ xs p)
@@ -138,7 +138,7 @@ moved_in {w} {code} {numbers} {k} {c} {c'} {i} {i'} {f} {v} q credits index r =
     subst (λ n. Reach code k f v n (services_of q) (λ b y. IsIn w q numbers i' b y)) credits
     (subst (λ n. Reach code k f v c (services_of q) (λ b y. IsIn w q numbers n b y)) index r)
 
-all_come :
+pub all_come :
     (w : Surroundings) (code : List Instr) (e : Environment) (p : Point) (numbers : ℕ → ℕ) (φ : Layer)
     (φs : List Layer) (xs : List Declared) (n c index : ℕ) (f : Family) → AreDeclared w p φ φs xs →
     AreListed e n xs → e.parts ≡ w.parts → Stands w p × IsImage w code p →
@@ -175,7 +175,7 @@ unmade around n acts d Y.ParameterClass s e = refl
 unmade around n acts d Y.BasedClass s e = refl
 unmade around n acts d Y.ControlledClass s e = refl
 
-all_mean :
+pub all_mean :
     (around : Around) (w : Surroundings) (e : Environment) (p : Point) (φ : Layer) (φs : List Layer)
     (xs : List Declared) (ds : List Y.DeclaredVariable) (n m acts : ℕ) → AreDeclared w p φ φs xs → AreListed e m xs →
     AreThose n xs ds → K.variables_made around n ds acts p.state ≡ Normal tt (all_made w.parts φ xs p).state
@@ -207,7 +207,7 @@ all_mean around w e p φ φs (x ∷ xs) (d' ∷ ds) n m acts are listed (inl tho
     ∙ all_mean around w e q (layer_behind w.parts (p.state.serials + 1) φ x) φs xs ds (n + 1) (x.index + 1) acts
     are.1 listed.1 those.2
 
-block_means :
+pub block_means :
     (around : Around) (head : Y.BlockHead) (acts : ℕ) (s s' : State) → head.kind ≡ Y.ProcedureBlock →
     K.variables_made around 0 (variables_of_block around.program head.number) acts s ≡ Normal tt s' →
     M.block_variables_made around head head.kind acts s ≡ Normal tt s'
@@ -220,7 +220,7 @@ abbrev pub changed_in : Layer → Changed
 changed_in φ =
     record { units = φ.units; waits = φ.waits; told = φ.told; top = φ.top; lower = φ.lower; carried = φ.carried }
 
-layer_resumed :
+pub layer_resumed :
     (parts : MemoryParts) (serial : ℕ) (xs : List Declared) (m : Made) (φ : Layer) →
     layer_after parts serial (grown m φ) xs ≡ resumed (changed_in (layer_after parts serial (grown m φ) xs)) φ
 layer_resumed parts serial [] m φ = refl
@@ -253,7 +253,7 @@ all_bind w p φ (x ∷ xs) a as' h =
     all_bind w (behind_made w.parts φ x p) (layer_behind w.parts (p.state.serials + 1) φ x) xs a as'
     (record { bindings = b ∷ h.bindings; active = ap (λ us. with_binding b us) h.active })
 
-all_remain :
+pub all_remain :
     (w : Surroundings) (r p : Point) (φ : Layer) (φs : List Layer) (xs : List Declared) (a : Activation)
     (as' : List Activation) → AreDeclared w p φ φs xs → Binds p a as' → length r.state.activations < a.height →
     Lives p.places p.state → Remains r p → Remains r (all_made w.parts φ xs p)
@@ -267,7 +267,7 @@ all_remain w r p φ φs (x ∷ xs) a as' are binds above lives remains =
     (next_lives w p x φ φs are.0 lives)
     (remains_made r p m remains lives (omega (arith, height, above)))
 
-all_serials :
+pub all_serials :
     (w : Surroundings) (p : Point) (φ : Layer) (xs : List Declared) →
     (all_made w.parts φ xs p).state.serials ≡ p.state.serials + length xs
 all_serials w p φ [] = omega arith
@@ -275,7 +275,7 @@ all_serials w p φ (x ∷ xs) =
     let rest = all_serials w (behind_made w.parts φ x p) (layer_behind w.parts (p.state.serials + 1) φ x) xs in
     rest ∙ omega arith
 
-all_world :
+pub all_world :
     (w : Surroundings) (p : Point) (φ : Layer) (xs : List Declared) →
     ((all_made w.parts φ xs p).state.world ≡ p.state.world)
     × ((all_made w.parts φ xs p).control.waiting ≡ p.control.waiting)

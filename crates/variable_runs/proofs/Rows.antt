@@ -28,11 +28,11 @@ use Rattle.activation_relation.specs.Layers.{services_of}
 use Rattle.run_steps.specs.Items.{Linked}
 use Rattle.run_steps.proofs.Jumps.{back_of, first_of, front_of, rest_of}
 use Rattle.run_steps.proofs.Linking.{has_items, linked_length}
-use Rattle.run_steps.specs.Reach.{Comes, never}
+use Rattle.run_steps.specs.Reach.{Comes}
 use Rattle.program_runs.specs.Calls.{block_at, body_index, left_over}
 use Rattle.program_runs.specs.Procedures.{begin_of, end_of, procedure_code}
 use Rattle.program_runs.specs.Programs.{IsWhole, Whole, main_of}
-use Rattle.program_runs.specs.Starts.{first_family, image_parts, main_called, no_numbers, start_of}
+use Rattle.program_runs.specs.Starts.{first_family, image_parts, main_called, no_numbers, start_of, never_in}
 use Rattle.program_runs.specs.Starts.{start_point, surroundings_of}
 use Rattle.program_runs.specs.Statements.{Block, EachDoes, IsBegun, StandAt}
 use Rattle.program_runs.proofs.Gotos.{goto_does}
@@ -377,7 +377,7 @@ pair_is input first acts few bytes =
 pub pair_runs :
     Keeps run_keeper → (input first : List ℕ) (acts : ℕ) → acts + 1 < 2 ^ 64 → length first ≡ memory_size →
     Comes (linked_code pair_code) 0 (first_family first (services_of (start_point (pair_image input acts))))
-    (services_of (start_point (pair_image input acts))) never
+    (services_of (start_point (pair_image input acts))) (never_in (pair_image input acts))
     (run pair_program (suc acts) acts (first_state input))
 pair_runs keeps input first acts few bytes =
     program_runs keeps (pair_whole input acts) first (pair_is input first acts few bytes)

@@ -5,6 +5,6 @@ use Rattle.number_headlines.proofs.laws.sum_kept.Goals as goal
 pub returns : goal.returns
 returns c =
     record {
-      headline = c.given_headlines_kept.ensures sum_program sum_program_is sum_fits;
+      headline = c.number_headlines_kept.ensures sum_program sum_program_is sum_fits;
       ends = sum_ends;
     }

@@ -1,6 +1,7 @@
 use Rattle.number_runs.proofs.Homes.{none_raised}
 use Rattle.number_runs.proofs.Statements.{body_does, body_marked, form_does}
 use Rattle.number_runs.proofs.Puts.{puts_known}
+use Rattle.number_runs.proofs.Unraised.{around_texts_end}
 use Rattle.number_runs.proofs.laws.bodies_do.Goals as goal
 
 pub returns : goal.returns
@@ -11,4 +12,5 @@ returns c =
       marked = body_marked;
       unraised = none_raised;
       written = puts_known;
+      texts = around_texts_end;
     }

@@ -1,4 +1,4 @@
-use Rattle.number_runs.proofs.Takes.{registers_held, words_set}
+use Rattle.number_runs.proofs.BlocksTaken.{registers_held, words_set}
 use Rattle.number_runs.proofs.laws.temporaries_fit.Goals as goal
 
 pub returns : goal.returns

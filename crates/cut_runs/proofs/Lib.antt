@@ -1,0 +1,4 @@
+mod Extending
+mod Serving
+mod Runs
+mod Meanings

@@ -1,0 +1,4 @@
+// INITIAL values of programs, told of their static data.
+#![tactic(auto)]
+
+pub mod laws;

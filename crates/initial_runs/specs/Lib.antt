@@ -1,0 +1,4 @@
+pub mod Told
+pub mod Variables
+pub mod Lists
+pub mod Numbers

@@ -1,0 +1,5 @@
+pub mod Phases
+pub mod Forms
+pub mod Units
+pub mod Signals
+pub mod Laws
