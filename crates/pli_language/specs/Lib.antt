@@ -2,6 +2,7 @@ pub mod Keywords
 pub mod Tokens
 pub mod Tree
 pub mod View
+pub mod Weights
 pub mod Refusals
 pub mod Declarations
 pub mod Means
