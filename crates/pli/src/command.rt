@@ -173,13 +173,14 @@ fn check<'a>(alloc: Global) -> Result<Command<'a>, AllocError> {
 }
 
 fn explain<'a>(alloc: Global) -> Result<Command<'a>, AllocError> {
-    let word = Arg::new(alloc, WORD)
+    let words = Arg::new(alloc, WORD)
         .required(true)
-        .action(ArgAction::Set)
-        .help("A number or a name");
+        .num_args(1..)
+        .action(ArgAction::Append)
+        .help("A number or a name, or a form that is left out");
     Command::new(alloc, "explain")
         .about("Tells what a refusal, an error or a limit means, and what to do")
-        .arg(word)
+        .arg(words)
 }
 
 fn completions<'a>(alloc: Global) -> Result<Command<'a>, AllocError> {

@@ -18,7 +18,7 @@ use pli_messages::explain::explanation;
 use pli_messages::message::{Message, Style};
 use pli_parse::parse;
 use pli_run::report::{refused_source, unwritten};
-use std::alloc::Global;
+use std::alloc::{AllocError, Global};
 use std::io;
 
 /// The status where the words ask for nothing that the program does.
@@ -154,12 +154,25 @@ pub fn check(rt: &HostRuntime, matches: &ArgMatches<'_>) -> u8 {
     greatest
 }
 
+/// Words as they stand in a form, with a blank between each two.
+fn form_of(alloc: Global, words: &[&str]) -> Result<String, AllocError> {
+    let mut form = String::new(alloc);
+    for word in words {
+        if !form.is_empty() {
+            form.push_str(" ")?;
+        }
+        form.push_str(word)?;
+    }
+    Ok(form)
+}
+
 /// `pli explain`.
 pub fn explain(rt: &HostRuntime, matches: &ArgMatches<'_>) -> io::Result<u8> {
-    let word = matches.get_str(command::WORD).unwrap_or("");
-    let text = explanation(rt.alloc(), word)?;
+    let words = matches.get_strs(command::WORD).unwrap_or(&[]);
+    let form = form_of(rt.alloc(), words)?;
+    let text = explanation(rt.alloc(), &form)?;
     if text.is_empty() {
-        let _ = eprintln!(rt; "{UNKNOWN}: {word}");
+        let _ = eprintln!(rt; "{UNKNOWN}: {form}");
         return Ok(USAGE);
     }
     Ok(printed(rt, &text))

@@ -12,5 +12,10 @@ some_weight (J.More' a i b is) = omega arith
 pub Stmt::into_bodies-loop-self-smaller : goal.Stmt::into_bodies-loop-self-smaller
 unfolding weight_of_stmt
 Stmt::into_bodies-loop-self-smaller t c =
-    omega (arith, c.before-bodies.ensures, some_weight c.before-bodies.result.0, ap weight_of_stmt c.in-IfElse.is,
-    ap weight_of_stmt c.emptied-inner.ensures.0)
+    omega (
+      arith,
+      c.before-bodies.ensures,
+      some_weight c.before-bodies.result.0,
+      ap weight_of_stmt c.in-IfElse.is,
+      ap weight_of_stmt c.emptied-inner.ensures.0,
+    )
