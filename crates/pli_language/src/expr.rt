@@ -1,7 +1,8 @@
 // The tree of expressions: what is written, with the place of each first token that a refusal can name.
 
 ghost use Rattle.std.specs.Prelude.{◌≡◌, ◌+◌, ◌*◌, ◌≤◌};
-ghost use Rattle.pli_language.specs.Weights.{weight_of_exprs, weight_of_expr, weight_of_reference, weight_of_qualified, weight_of_arguments};
+ghost use Rattle.pli_language.specs.Weights.{weight_of_exprs, weight_of_expr, weight_of_reference};
+ghost use Rattle.pli_language.specs.Weights.{weight_of_qualified, weight_of_arguments};
 
 use crate::token::Word;
 use std::mem::replace;
@@ -235,12 +236,14 @@ impl Reference {
 }
 
 impl Expr {
-    /// A left operand: the arguments in it, and the expression that is left, with the operand's own left operand before.
+    /// A left operand: the arguments in it, and the expression that is left, with the operand's own left
+    /// operand before.
     #[tactic(auto, unfolding(crate::specs::Weights::weight_of_exprs, crate::specs::Weights::weight_of_expr))]
     #[cycle(dropping_expressions)]
     fn before(self, mut cell: Box<Expr>, op: InfixOp, right: Box<Expr>) -> (Exprs, Expr)
         requires { weight_of_expr cell.value ≡ 1 }
-        ensures { weight_of_exprs result.0 + weight_of_expr result.1 ≤ 2 * weight_of_expr self + weight_of_expr right.value + 1 }
+        ensures { weight_of_exprs result.0 + weight_of_expr result.1
+            ≤ 2 * weight_of_expr self + weight_of_expr right.value + 1 }
     {
         let (arguments, next) = match self {
             Expr::Infix {

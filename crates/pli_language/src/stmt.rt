@@ -286,7 +286,8 @@ impl Stmt {
     #[cycle(dropping)]
     fn before(self, mut cell: Box<Stmt>, condition: Expr, otherwise: Box<Stmt>) -> (Items, Stmt)
         requires { weight_of_stmt cell.value ≡ 1 }
-        ensures { weight_of_items result.0 + weight_of_stmt result.1 ≤ 2 * weight_of_stmt self + weight_of_stmt otherwise.value + 1 }
+        ensures { weight_of_items result.0 + weight_of_stmt result.1
+            ≤ 2 * weight_of_stmt self + weight_of_stmt otherwise.value + 1 }
     {
         let (bodies, next) = match self {
             Stmt::IfElse {
