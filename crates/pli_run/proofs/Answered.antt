@@ -59,7 +59,7 @@ own_table : (program : Y.Program) (image : Images.Image) → IsCodeOf program im
 own_table program image made proved =
     record { fit = table_fits program proved; spelled = ap (λ (i : Images.Image). i.table) made.image_is }
 
-resolved_is : {tree : T.Tree} {program : Y.Program} → Resolves tree program → program ≡ typed_tree tree
+pub resolved_is : {tree : T.Tree} {program : Y.Program} → Resolves tree program → program ≡ typed_tree tree
 resolved_is (resolves kept) = refl
 
 -- what the image of a source shows up to some instruction is the front of what its program means from there on
