@@ -1,4 +1,4 @@
 mod Extending
 mod Serving
-mod Runs
+pub mod Runs
 mod Meanings

@@ -10,9 +10,9 @@ use Rattle.pli_serving.specs.Answers.{Answer, Done, Ends, Bad}
 use Rattle.pli_serving.specs.Finding.{Call}
 use Rattle.run_keeper.specs.RunKeeper.{run_keeper}
 use Rattle.image_runs.specs.Runs.{Whole, Run, Runs, Ended, Stopped}
-use Rattle.image_runs.specs.Runs.{answered, called, layout_of, of_effect, next, run_on, run_of, shown_by}
+use Rattle.image_runs.specs.Runs.{answered, called, layout_of, of_effect, next, run_on, shown_by}
 use Rattle.cut_runs.specs.Continuing.{Continues}
-use Rattle.cut_runs.specs.Fronts.{RunsContinue}
+use Rattle.cut_runs.specs.Fronts.{RunsContinue, ShowsOn}
 use Rattle.cut_runs.proofs.Extending.{extends_refl, extends_trans, same_world}
 use Rattle.cut_runs.proofs.Serving.{serves_continues}
 
@@ -102,8 +102,11 @@ shown_later n p (Stopped fault) w v h e = absurd (cc h)
 further : (n m : ℕ) → n ≤ m → n + (m - n) ≡ m
 further n m h = omega (arith, h)
 
+-- wherever it begins
+pub on_continues : (p : Loaded) (r : Run) → ShowsOn (λ n. run_on n p r)
+on_continues p r n m w v h a b =
+    let split = ap (λ k. run_on k p r) (sym (further n m h)) ∙ on_added n (m - n) p r in
+    shown_later (m - n) p (run_on n p r) w v a (ap shown_by (sym split) ∙ b)
+
 pub runs_continue : RunsContinue
-runs_continue image signatures base input n m w v h a b =
-    let p = loaded_at image base in
-    let split = ap (λ k. run_of image signatures base input k) (sym (further n m h)) ∙ on_added n (m - n) p _ in
-    shown_later (m - n) p (run_of image signatures base input n) w v a (ap shown_by (sym split) ∙ b)
+runs_continue image signatures base input = on_continues (loaded_at image base) _

@@ -14,18 +14,22 @@ use Rattle.pli_meaning.specs.Executing.{meaning}
 use Rattle.pli_meaning.specs.Laws.{Extends}
 use Rattle.pli_meaning.specs.Pictures.{Picture}
 use Rattle.pli_meaning.specs.World.{World}
-use Rattle.image_runs.specs.Runs.{run_of, shown_by}
+use Rattle.image_runs.specs.Runs.{run_of, shown_by, Run}
 use Rattle.well_formed_trees.specs.WellFormed.{IsWellFormed}
 use Rattle.pli_headline.specs.Headline.{Headline}
 
 -- ---- runs of images
 
+-- what a run by the number of instructions allowed shows is the front of what it shows with more of them
+abbrev pub ShowsOn : (ℕ → Run) → Type 0
+ShowsOn run =
+    (n m : ℕ) (w v : World) → n ≤ m → shown_by (run n) ≡ Some w → shown_by (run m) ≡ Some v → Extends w v
+
 -- what an image shows is the front of what it shows with more instructions
 abbrev pub RunsContinue : Type 0
 RunsContinue =
-    (image : Picture) (signatures : List TableSignature) (base : ℕ) (input : List ℕ) (n m : ℕ) (w v : World) → n ≤ m →
-    shown_by (run_of image signatures base input n) ≡ Some w →
-    shown_by (run_of image signatures base input m) ≡ Some v → Extends w v
+    (image : Picture) (signatures : List TableSignature) (base : ℕ) (input : List ℕ) →
+    ShowsOn (run_of image signatures base input)
 
 -- ---- meanings
 
@@ -43,20 +47,22 @@ MeaningsContinue =
 
 -- ---- both
 
--- where the headline is proved, what an image shows up to some instruction is the front of the program's meaning at
--- every number of acts from its own on
+-- what an image shows up to some instruction is the front of the program's meaning at every number of acts from its own
+-- on
+abbrev pub ShowsFronts : Y.Program → Picture → List TableSignature → Type 0
+ShowsFronts program image signatures =
+    (base : ℕ) (input : List ℕ) (done : ℕ) (w : World) → IsValidBase base → done < 2 ^ 64 →
+    shown_by (run_of image signatures base input done) ≡ Some w → (m : ℕ) → w.acts ≤ m → GoesOn program input w m
+
+-- so it is where the headline is proved
 abbrev pub CutRunsMeant : Type 0
 CutRunsMeant =
     (program : Y.Program) (image : Picture) (signatures : List TableSignature) → IsWellFormed program →
-    Headline program image signatures → (base : ℕ) (input : List ℕ) (done : ℕ) (w : World) → IsValidBase base →
-    done < 2 ^ 64 → shown_by (run_of image signatures base input done) ≡ Some w → (m : ℕ) → w.acts ≤ m →
-    GoesOn program input w m
+    Headline program image signatures → ShowsFronts program image signatures
 
--- so it is of each accepted source
+-- and of each accepted source
 abbrev pub AcceptedCutRunsMeant : Type 0
 AcceptedCutRunsMeant =
     (s : List ℕ) (tokens : List Token) (tree : T.Tree) → Tokens s tokens → Spells s tokens tree →
     declaring_faults tree ≡ [] → typing_faults tree ≡ [] → (image : Picture) (signatures : List TableSignature) →
-    Headline (typed_tree tree) image signatures → (base : ℕ) (input : List ℕ) (done : ℕ) (w : World) →
-    IsValidBase base → done < 2 ^ 64 → shown_by (run_of image signatures base input done) ≡ Some w →
-    (m : ℕ) → w.acts ≤ m → GoesOn (typed_tree tree) input w m
+    Headline (typed_tree tree) image signatures → ShowsFronts (typed_tree tree) image signatures

@@ -4,5 +4,6 @@ pub mod Asked
 pub mod Pictures
 pub mod Told
 pub mod Answered
+pub mod OutOfMemory
 pub mod Filing
 pub mod Streaming

@@ -1,5 +1,5 @@
 -- An image in instructions has one list of them, and is loaded as a machine loads it.
-use Rattle.std.proofs.Common.{◌≡◌, ℕ, suc, ◌*◌, List, [], ◌∷◌, Err, length, map, refl, ap, subst, sym, ◌∙◌, arith}
+use Rattle.std.proofs.Common.{◌≡◌, ℕ, suc, ◌*◌, List, [], ◌∷◌, Some, Err, length, map, refl, ap, subst, sym, ◌∙◌, arith}
 use Rattle.std.proofs.Common.{append_assoc}
 use Rattle.rv_meaning.specs.declared.instr.Instr.{Instr}
 use Rattle.rv_meaning.specs.Encoding.{word_of}
@@ -10,6 +10,7 @@ use Rattle.rv_meaning.specs.Images.{Image}
 use Rattle.pli_meaning.specs.InputLines.{first_input, Input}
 use Rattle.pli_meaning.specs.Pictures.{loaded_at, first_machine}
 use Rattle.image_runs.specs.Runs.{Runs, run_on, run_of, shown_by}
+use Rattle.cut_runs.proofs.Runs.{runs_continue}
 use Rattle.rv_meaning.specs.Tables.{TableSignature}
 use Rattle.rv_meaning.specs.Machine.{Loaded, State}
 use Rattle.pli_serving.specs.ServiceState.{Services, first_services}
@@ -107,17 +108,20 @@ image_run s image base input output bound last r stop p gs bytes all h tabled be
 pub unstarted_shows : (p : Picture) (gs : List TableSignature) (base : ℕ) (input : List ℕ) (bound : ℕ)
     (output taken : List ℕ) (f : RunFault) → IsUnstarted f → output ≡ [] →
     Shows (run_of p gs base input) bound output taken (Err f)
-unstarted_shows p gs base input bound output taken (Memory acts own) h none = record {
-  done = 0;
-  within = omega arith;
-  shows = record {
-    world = first_world;
-    shown = ap shown_by (none_on (loaded_at p base) _);
-    acts_are = h.0;
-    output_is =
-        none;
-  };
-}
+unstarted_shows p gs base input bound output taken (Memory acts own) h none =
+    let first : shown_by (run_of p gs base input 0) ≡ Some first_world =
+    ap shown_by (none_on (loaded_at p base) _) in
+    record {
+      done = 0;
+      within = omega arith;
+      shows = record {
+        world = first_world;
+        shown = first;
+        acts_are = h.0;
+        output_is = none;
+        goes_on = λ more later n is. runs_continue p gs base input 0 more first_world later n first is;
+      };
+    }
 unstarted_shows p gs base input bound output taken BadBase h none = absurd h
 unstarted_shows p gs base input bound output taken (Source fault) h none = absurd h
 unstarted_shows p gs base input bound output taken (Read acts own) h none = absurd h

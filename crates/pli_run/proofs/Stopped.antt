@@ -16,6 +16,8 @@ use Rattle.pli_serving.specs.ServiceState.{Services}
 use Rattle.pli_runtime.specs.declared.runtime.Runtime.{Runtime}
 use Rattle.pli_environment.specs.Calling.{Streams, Serves, fault_in, services_of}
 use Rattle.image_runs.specs.Runs.{Whole, Run, Runs, Ended as HasEnded, Stopped, of_effect, run_on, shown_by}
+use Rattle.cut_runs.specs.Fronts.{ShowsOn}
+use Rattle.cut_runs.proofs.Runs.{on_continues}
 use Rattle.pli_run.specs.Running.{world_with, BreaksOff, Meets, Shows, ShowsAfter, ShowsWithin}
 use Rattle.pli_run.specs.Stopping.{by_step, came_to}
 use Rattle.pli_run.specs.Tracing.{entered_in}
@@ -47,6 +49,22 @@ ComesTo run bound taken (Some fault) last v = BreaksBy (fault == 5) run bound v.
 abbrev pub run_from : {I O : Type 0} → Streams I O → Loaded → Moment (Runtime I O) → (all : List ℕ) → ℕ → Run
 run_from s p from all n = run_on n p (Runs (whole s from all))
 
+-- what a run shows it goes on from
+shown_after : (run : ℕ → Run) (done : ℕ) (w : World) → ShowsOn run → shown_by (run done) ≡ Some w →
+    ShowsAfter run done w.acts w.output
+shown_after run done w on e = record {
+  world = w;
+  shown = e;
+  acts_are = refl;
+  output_is = refl;
+  goes_on = λ more later h is. on done more w later h e is;
+}
+
+-- so does a run of code
+shows_on : {I O : Type 0} (s : Streams I O) (p : Loaded) (from : Moment (Runtime I O)) (all : List ℕ) →
+    ShowsOn (run_from s p from all)
+shows_on s p from all = on_continues p (Runs (whole s from all))
+
 -- what the steps that ran show
 ran_shows : {I O : Type 0} (s : Streams I O) (p : Loaded) (ran : ℕ) (from at : Moment (Runtime I O)) (all : List ℕ)
     (w : World) →
@@ -54,12 +72,8 @@ ran_shows : {I O : Type 0} (s : Streams I O) (p : Loaded) (ran : ℕ) (from at :
     ShowsAfter (run_from s p from all) ran w.acts w.output
 ran_shows s p ran from at all w on e =
     let P : ℕ → Type 0 = λ j. run_on j p (Runs (whole s from all)) ≡ run_on 0 p (Runs (whole s at all)) in
-    record {
-      world = w;
-      shown = ap shown_by (subst P (add-zero ran) on.on ∙ none_on p _) ∙ ap (λ (it : World). Some it) (sym e);
-      acts_are = refl;
-      output_is = refl;
-    }
+    shown_after (run_from s p from all) ran w (shows_on s p from all)
+    (ap shown_by (subst P (add-zero ran) on.on ∙ none_on p _) ∙ ap (λ (it : World). Some it) (sym e))
 
 -- and one step more
 one_more : {I O : Type 0} (s : Streams I O) (p : Loaded) (ran : ℕ) (from at : Moment (Runtime I O)) (all : List ℕ)
@@ -87,33 +101,34 @@ cut_is_more old new taken (front, behind) same =
     absurd (omega (arith, more, all, size))
 
 -- a stream failed in the last step; where that was a write, the step is shown, and all before it was taken
-broken_by : (b : Bool) (run : ℕ → Run) (bound ran : ℕ) (taken : List ℕ) (before after : World) → ran < bound →
+broken_by : (b : Bool) (run : ℕ → Run) (bound ran : ℕ) (taken : List ℕ) (before after : World) → ShowsOn run →
+    ran < bound →
     (b ≡ true → IsCut before.output after.output taken) → ShowsAfter run ran before.acts before.output →
     (after ≡ before) ⊎ (shown_by (run (ran + 1)) ≡ Some after) →
     BreaksBy b run bound after.acts after.output taken
-broken_by true run bound ran taken before after h cut here (inl same) =
+broken_by true run bound ran taken before after on h cut here (inl same) =
     absurd (cut_is_more before.output after.output taken (cut refl) (ap (λ (w : World). w.output) same))
-broken_by true run bound ran taken before after h cut here (inr behind) =
+broken_by true run bound ran taken before after on h cut here (inr behind) =
     let told = cut refl in
     record {
       done = ran;
       within = h;
-      shows = record { world = after; shown = behind; acts_are = refl; output_is = refl };
+      shows = shown_after run (ran + 1) after on behind;
       acts_before = before.acts;
       output_before = before.output;
       shows_before = here;
       more = told.0.0;
       whole = told.0.1;
     }
-broken_by false run bound ran taken before after h cut here (inl same) = record {
+broken_by false run bound ran taken before after on h cut here (inl same) = record {
   done = ran;
   within = omega (arith, h);
   shows = subst (λ (w : World). ShowsAfter run ran w.acts w.output) (sym same) here;
 }
-broken_by false run bound ran taken before after h cut here (inr behind) = record {
+broken_by false run bound ran taken before after on h cut here (inr behind) = record {
   done = ran + 1;
   within = omega (arith, h);
-  shows = record { world = after; shown = behind; acts_are = refl; output_is = refl };
+  shows = shown_after run (ran + 1) after on behind;
 }
 
 broken_comes : {I O : Type 0} (s : Streams I O) (p : Loaded) (bound ran : ℕ) (from at : Moment (Runtime I O))
@@ -123,8 +138,8 @@ broken_comes : {I O : Type 0} (s : Streams I O) (p : Loaded) (bound ran : ℕ) (
     ⊎ (shown_by (run_from s p from all (ran + 1)) ≡ Some after) →
     BreaksBy (number == 5) (run_from s p from all) bound after.acts after.output taken
 broken_comes s p bound ran from at all taken number after h on cut e =
-    broken_by (number == 5) (run_from s p from all) bound ran taken (services_of s at.services all).world after h
-    (λ is. cut (eqb-true number 5 is))
+    broken_by (number == 5) (run_from s p from all) bound ran taken (services_of s at.services all).world after
+    (shows_on s p from all) h (λ is. cut (eqb-true number 5 is))
     (ran_shows s p ran from at all (services_of s at.services all).world (on 0) refl) e
 
 ended_comes : {I O : Type 0} (s : Streams I O) (p : Loaded) (bound ran : ℕ) (from at : Moment (Runtime I O))

@@ -1,5 +1,5 @@
 -- What a run of a source is promised to show.
-use Rattle.std.specs.Prelude.{◌≡◌, ◌≢◌, ◌⊎◌, ℕ, List, [], Some, Result, Ok, Err}
+use Rattle.std.specs.Prelude.{◌≡◌, ◌≢◌, ◌⊎◌, ℕ, ◌≤◌, List, [], Some, Result, Ok, Err}
 use Rattle.pli_meaning.specs.declared.outcome.Outcome.{Outcome}
 use Rattle.pli_language.specs.declared.fault.SourceFault.{SourceFault}
 use Rattle.pli_language.specs.declared.fault.SourceKind.TheVariants as SourceKind
@@ -17,6 +17,7 @@ use Rattle.pli_run.specs.Running.{own_output, world_with, IsPicture, IsTabled, S
 use Rattle.pli_run.specs.declared.run.RunFault.{RunFault}
 use Rattle.pli_run.specs.declared.run.RunFault.TheVariants.{Memory, Read, Write, Source}
 use Rattle.pli_headline.specs.Headline.{parts, Keeps}
+use Rattle.cut_runs.specs.Fronts.{GoesOn}
 use Rattle.pli_compile.specs.Compiling.{IsImageFor, IsProved, IsRefused}
 
 -- ---- what is shown is what the program means
@@ -31,12 +32,14 @@ pub record Means (program : Y.Program) (input : List ℕ) (bound : ℕ) (w : Wor
   pub anywhere : (base : ℕ) → IsValidBase base →
       shown_by (run_of (picture_of parts program) (table_of program) base input bound) ≡ Some w
 
--- these are the acts and the output of a program up to some act
+-- these are the acts and the output of a program up to some act, and the front of its meaning at every number of acts
+-- from there on
 pub record ShowsPart (program : Y.Program) (input : List ℕ) (acts : ℕ) (output : List ℕ) : Type 0 where
   pub world : World
   pub meant : meaning program input world.acts ≡ Some world
   pub acts_are : acts ≡ world.acts
   pub output_is : output ≡ world.output
+  pub goes_on : (more : ℕ) → acts ≤ more → GoesOn program input world more
 
 -- no instruction is one that can't be carried out
 abbrev pub AnswersMeant : (program : Y.Program) (input : List ℕ) → (bound : ℕ) → (output : List ℕ) →

@@ -2,6 +2,7 @@ pub mod Running
 pub mod Asking
 pub mod Reporting
 pub mod Answering
+pub mod OutOfMemory
 pub mod Filing
 pub mod Stopping
 pub mod Streaming

@@ -3,6 +3,7 @@ use Rattle.std.specs.Prelude.{◌≡◌, ℕ, ◌+◌, ◌<◌, ◌≤◌, List,
 use Rattle.pli_meaning.specs.declared.outcome.Outcome.{Outcome}
 use Rattle.rv_meaning.specs.declared.instr.Fault.{Fault}
 use Rattle.rv_meaning.specs.Encoding.{word_of}
+use Rattle.pli_meaning.specs.Laws.{Extends}
 use Rattle.pli_meaning.specs.World.{World}
 use Rattle.pli_meaning.specs.Pictures.{Picture}
 use Rattle.image_runs.specs.Runs.{run_of, shown_by, Run, Stopped}
@@ -31,12 +32,14 @@ pub record IsTabled (signatures : List TableSignature) (image : Image) : Type 0 
   pub fit : AreSignatures signatures
   pub spelled : image.table ≡ table_words signatures
 
--- a run by the number of instructions allowed shows these acts and this output where so many are done
+-- a run by the number of instructions allowed shows these acts and this output where so many are done, and they are the
+-- front of all that it shows with more
 pub record ShowsAfter (run : ℕ → Run) (done acts : ℕ) (output : List ℕ) : Type 0 where
   pub world : World
   pub shown : shown_by (run done) ≡ Some world
   pub acts_are : acts ≡ world.acts
   pub output_is : output ≡ world.output
+  pub goes_on : (more : ℕ) (later : World) → done ≤ more → shown_by (run more) ≡ Some later → Extends world later
 
 -- it meets a fault at the instruction behind those done, up to which it shows these acts and this output
 pub record Meets (run : ℕ → Run) (bound : ℕ) (fault : Fault) (acts : ℕ) (output : List ℕ) : Type 0 where

@@ -7,6 +7,7 @@ ghost use Rattle.rv_image.specs.Headers.{IsFaultOf};
 
 use crate::run::{RunFault, Traced, run};
 use crate::streams::run_traced;
+use cut_runs::laws::accepted_cut_runs_meant;
 use pli_compile::compile::compile;
 use pli_edit::drain::Drain;
 use pli_edit::feed::Feed;
@@ -53,6 +54,7 @@ pub fn run_bytes(
         (λ fault. IsFaultOf bytes.now fault) }
     ensures meant { IfOk result (λ ran. IsRunFor bytes.now input.now base bound ran) }
 {
+    accepted_cut_runs_meant();
     let image = Image::from_bytes(alloc, bytes)?;
     Ok(run(alloc, &image, base, input, bound))
 }
@@ -79,6 +81,7 @@ pub fn stream_bytes<F: Feed, D: Drain>(
     ensures meant { IfOk result.0 (λ ran. IsRunBetweenFor bytes.now base bound (F.history feed) (D.history drain) ran
         (F.history result.1) (D.history result.2)) }
 {
+    accepted_cut_runs_meant();
     match Image::from_bytes(alloc, bytes) {
         Ok(image) => {
             let (ran, feed, drain) = run_traced(alloc, &image, base, feed, drain, bound);

@@ -2,6 +2,7 @@
 #![tactic(auto)]
 
 pub mod image_file;
+pub mod laws;
 pub mod report;
 pub mod run;
 pub mod source_run;

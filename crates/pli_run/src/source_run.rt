@@ -11,6 +11,7 @@ ghost use Rattle.pli_run.specs.Tracing.{outcome_of, TracesSource};
 
 use crate::run::{RunFault, Traced, run};
 use crate::streams::run_traced;
+use cut_runs::laws::accepted_cut_runs_meant;
 use pli_compile::compile::compile;
 use pli_edit::drain::Drain;
 use pli_edit::feed::Feed;
@@ -40,7 +41,8 @@ fn uncompiled(alloc: Global, fault: SourceFault) -> RunFault
 ///
 /// `BadBase` before all, where the base isn't a multiple of 4,096 with 16 MiB of addresses from it on. `Source` where
 /// the source is refused. `Memory` where memory ran out, with the acts and the output up to there: none, where it ran
-/// out before the run.
+/// out before the run. With that output begins all that the run shows with more instructions; and where the headline is
+/// proved, all that the program means at as many acts or more.
 pub fn compile_and_run(
     alloc: Global,
     source: &[u8],
@@ -51,6 +53,7 @@ pub fn compile_and_run(
     ensures bad_base { IsErrOf result RunFault.BadBase ↔ ¬ IsValidBase base }
     ensures meant { IsValidBase base → Answers source.now input.now base bound result }
 {
+    accepted_cut_runs_meant();
     if !valid_base(base) {
         return Err(RunFault::BadBase);
     }
@@ -86,6 +89,7 @@ pub fn compile_and_stream<F: Feed, D: Drain>(
         F.history result.1 ≡ F.history feed }
     ensures empty { own_output (outcome_of result.0) ≡ [] }
 {
+    accepted_cut_runs_meant();
     if valid_base(base) {
         return match compile(alloc, source) {
             Ok(image) => run_traced(alloc, &image, base, feed, drain, bound),

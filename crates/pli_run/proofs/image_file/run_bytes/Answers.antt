@@ -26,4 +26,5 @@ returns-clause-meant c = λ s made valid.
     let b = c.args.bytes.now in
     let same : made.image ≡ c.in_ok-image.image = sym (image_back made.image b made.spelled) ∙ image_back c.in_ok-image.image b c.in_ok-image.ensures in
     let compiled : IsImageFor s c.in_ok-image.image = subst (λ (i : Image). IsImageFor s i) same made.compiled in
-    answered compiled c.in_ok-image.ensures.loadable c.args.base c.args.input.now c.args.bound c.run.result valid c.ranges.bound.fits (c.run.ensures.told valid)
+    answered c.accepted_cut_runs_meant.ensures compiled c.in_ok-image.ensures.loadable c.args.base c.args.input.now
+    c.args.bound c.run.result valid c.ranges.bound.fits (c.run.ensures.told valid)

@@ -14,6 +14,6 @@ returns-in-Ok-clause-meant g c = λ s made valid.
     let compiled : IsImageFor s c.in-Ok.image = subst (λ (i : Image). IsImageFor s i) same made.compiled in
     streamed_for
     (λ input output taken h.
-    answered_with compiled c.in-Ok.ensures.loadable c.args.base input c.args.bound output taken _ valid
-    c.ranges.bound.fits h.0)
+    answered_with c.accepted_cut_runs_meant.ensures compiled c.in-Ok.ensures.loadable c.args.base input c.args.bound
+    output taken _ valid c.ranges.bound.fits h.0)
     (c.run_traced-ran.ensures.told valid)

@@ -10,8 +10,8 @@ returns-in-Ok-clause-meant g c = λ valid.
     let loadable : IsLoadable c.in-Ok.image = subst (λ i. IsLoadable i) c.image.view_is c.image.invariant in
     streamed_for
     (λ input output taken h. (
-      answered_with c.in-Ok.ensures loadable c.args.base input c.args.bound output taken _ valid c.ranges.bound.fits
-          h.0,
+      answered_with c.accepted_cut_runs_meant.ensures c.in-Ok.ensures loadable c.args.base input c.args.bound output
+          taken _ valid c.ranges.bound.fits h.0,
       traces_source c.in-Ok.ensures c.args.base input c.args.bound _ h.1,
     ))
     (c.run_traced.ensures.told valid)
