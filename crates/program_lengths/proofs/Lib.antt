@@ -1,0 +1,3 @@
+mod SingleLengths
+mod StorageLengths
+mod StatementLengths
