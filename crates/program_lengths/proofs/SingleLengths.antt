@@ -245,7 +245,7 @@ pub condition_within : (scope : Scope) (e : T.Expr)
 condition_within scope e =
     own_bit_operand_short (most_words (expr_tokens e)) (operand scope e).value (spelled_operand scope e)
 
-number_within : (scope : Scope) (e : T.Expr) → number_size (number_at scope e).value ≤ 104 * expr_tokens e + 59
+pub number_within : (scope : Scope) (e : T.Expr) → number_size (number_at scope e).value ≤ 104 * expr_tokens e + 59
 number_within scope e =
     let words = number_operand_short (most_words (expr_tokens e)) (operand scope e).value (spelled_operand scope e) in
     omega (arith, words)

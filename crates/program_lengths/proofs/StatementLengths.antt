@@ -239,7 +239,7 @@ mutual
   stmt_short p c v next (T.Put skip pairs place) =
       let own = put_statement_within p c.scope skip pairs place in omega (arith, own)
 
-  list_short : (p : Y.Program) (c : Context) → LevelsFew c.scope.blocks → (next : ℕ) (is : T.Items)
+  pub list_short : (p : Y.Program) (c : Context) → LevelsFew c.scope.blocks → (next : ℕ) (is : T.Items)
       → AreShort p c next is
   list_short p c v next T.NoItem = omega arith
   list_short p c v next (T.ItemThen (T.Procedure head body) is) =

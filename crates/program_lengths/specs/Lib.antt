@@ -1,1 +1,3 @@
 pub mod StatementLengths
+pub mod DeclaredLengths
+pub mod ProgramLengths

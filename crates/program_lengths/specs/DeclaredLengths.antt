@@ -1,0 +1,72 @@
+-- What declarations take beside the tokens that they are spelled with: names in parentheses share their extents, and
+-- the code evaluates these for each name.
+use Rattle.std.specs.Prelude.{ℕ, ◌+◌, ◌*◌, List, [], ◌∷◌, Option, Some, if◌then◌else◌}
+use Rattle.pli_language.specs.Tree as T
+use Rattle.pli_typing.specs.Variables.{is_open}
+use Rattle.tree_tokens.specs.TreeTokens.{expr_tokens}
+use Rattle.source_sizes.specs.Short.{words_for_a_token}
+
+-- ---- the words of open extents: each is evaluated, checked and filled in
+
+abbrev pub extent_words : T.Extent → ℕ
+extent_words e = if is_open e.value then words_for_a_token * expr_tokens e.value + 82 else 0
+
+abbrev pub bound_words : T.Bound → ℕ
+bound_words (T.StarBound place) = 0
+bound_words (T.Upper upper) = extent_words upper
+bound_words (T.Both lower upper) = extent_words lower + extent_words upper
+
+abbrev pub bounds_words : List T.Bound → ℕ
+bounds_words [] = 0
+bounds_words (b ∷ bs) = bound_words b + bounds_words bs
+
+abbrev pub size_words : Option T.Size → ℕ
+size_words (Some (T.Given e)) = extent_words e
+size_words _ = 0
+
+abbrev pub attribute_words : T.Attribute → ℕ
+attribute_words (T.Character size) = size_words size
+attribute_words (T.Area size) = size_words size
+attribute_words _ = 0
+
+abbrev pub attributes_words : List T.Attribute → ℕ
+attributes_words [] = 0
+attributes_words (a ∷ as') = attribute_words a + attributes_words as'
+
+-- ---- what the names of an item share
+
+abbrev pub shared_words : T.DeclareItem → ℕ
+shared_words d = bounds_words d.dimensions + attributes_words d.attributes
+
+-- so much for each name
+abbrev pub for_each : {X : Type 0} → (words : ℕ) → List X → ℕ
+for_each words [] = 0
+for_each words (x ∷ xs) = words + for_each words xs
+
+-- for each but the first
+abbrev pub for_further : {X : Type 0} → (words : ℕ) → List X → ℕ
+for_further words [] = 0
+for_further words (x ∷ xs) = for_each words xs
+
+abbrev pub declare_beside : List T.DeclareItem → ℕ
+declare_beside [] = 0
+declare_beside (d ∷ ds) = for_further (shared_words d) d.names + declare_beside ds
+
+-- of all DECLARE statements in a part
+abbrev mutual
+  pub declared_beside : T.Stmt → ℕ
+  declared_beside (T.If condition unit place) = declared_beside unit
+  declared_beside (T.IfElse condition unit otherwise place) = declared_beside unit + declared_beside otherwise
+  declared_beside (T.Do body place) = declares_beside body
+  declared_beside (T.DoWhile condition body place) = declares_beside body
+  declared_beside (T.DoCount counting body place) = declares_beside body
+  declared_beside (T.Begin body place) = declares_beside body
+  declared_beside (T.OnUnit condition unit place) = declared_beside unit
+  declared_beside _ = 0
+
+  pub declares_beside : T.Items → ℕ
+  declares_beside T.NoItem = 0
+  declares_beside (T.ItemThen (T.Procedure head body) rest) = declares_beside body + declares_beside rest
+  declares_beside (T.ItemThen (T.Declare items place) rest) = declare_beside items + declares_beside rest
+  declares_beside (T.ItemThen (T.Statement labels statement) rest) = declared_beside statement + declares_beside rest
+  declares_beside (T.ItemThen (T.EndLabels labels place) rest) = declares_beside rest
