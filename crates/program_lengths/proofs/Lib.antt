@@ -1,6 +1,7 @@
 mod SingleLengths
 mod StorageLengths
 mod StatementLengths
+mod DeclaredSums
 mod DeclaredLengths
 mod VariableLengths
 mod RoutineLengths

@@ -25,11 +25,13 @@ use Rattle.well_formed_trees.proofs.ParameterVariables.{block_variables_are}
 use Rattle.well_formed_trees.proofs.Places.{HasAt, has_end, same_some}
 use Rattle.well_formed_trees.proofs.ProgramNumbers.{no_procedure, lists_kept, outermost_kept}
 use Rattle.well_formed_trees.proofs.Shapes.{shape_kept}
-use Rattle.program_lengths.specs.StatementLengths.{stmts_beside, procedures_beside, declares_tokens, blocks_size}
+use Rattle.program_lengths.specs.StatementLengths.{stmts_beside, procedures_beside, blocks_size}
+use Rattle.program_lengths.specs.Declares.{declares_tokens}
 use Rattle.program_lengths.specs.DeclaredLengths.{declares_beside}
 use Rattle.program_lengths.specs.ProgramLengths.{beside, ProgramsShort, ImagesShort}
 use Rattle.program_lengths.proofs.StatementLengths.{list_short}
-use Rattle.program_lengths.proofs.DeclaredLengths.{declared_words, all_words, list_within}
+use Rattle.program_lengths.proofs.DeclaredSums.{declarations_sum, blocks_sum}
+use Rattle.program_lengths.proofs.DeclaredLengths.{variable_words, blocks_paid}
 use Rattle.program_lengths.proofs.VariableLengths.{wholes_size, variables_most}
 use Rattle.program_lengths.proofs.RoutineLengths.{held_routines, all_held, routine_blocks, list_routines}
 use Rattle.program_lengths.proofs.LevelsFew.{levels_few}
@@ -41,18 +43,18 @@ statics_blocks p next [] = 0
 statics_blocks p next (b ∷ bs) = block_statics_size (variables_of_block p next) + statics_blocks p (next + 1) bs
 
 block_declared : (tree : T.Tree) (n : ℕ) (b : Block) → slice_get (blocks_of tree) n ≡ Some b
-    → wholes_size (variables_of_block (typed_tree tree) n) ≤ declared_words b.declarations
+    → wholes_size (variables_of_block (typed_tree tree) n) ≤ declarations_sum variable_words b.declarations
 block_declared tree n b e =
     let scope : Scope = record { blocks = blocks_of tree; block = n } in
     let same : declarations_at (blocks_of tree) n ≡ b.declarations = ap declarations_of e in
     let most = variables_most scope (declarations_at (blocks_of tree) n) in
-    subst (λ ds. wholes_size ds ≤ declared_words b.declarations) (sym (block_variables_are tree n b e))
-    (subst (λ ds. wholes_size (declared_variables scope).value ≤ declared_words ds) same most)
+    subst (λ ds. wholes_size ds ≤ declarations_sum variable_words b.declarations) (sym (block_variables_are tree n b e))
+    (subst (λ ds. wholes_size (declared_variables scope).value ≤ declarations_sum variable_words ds) same most)
 
 blocks_declared : (tree : T.Tree) (n : ℕ) (bs : List Block) → HasAt (blocks_of tree) n bs
     → blocks_size (typed_tree tree) n bs
     + (routine_blocks (typed_tree tree) n bs + statics_blocks (typed_tree tree) n bs)
-    ≤ all_words bs
+    ≤ blocks_sum variable_words bs
 blocks_declared tree n [] h = omega arith
 blocks_declared tree n (b ∷ bs) h =
     let one = block_declared tree n b h.0 in
@@ -120,7 +122,7 @@ programs_short s tokens tree t spelled =
     let levels = levels_few tree (ranges_kept s tokens tree t spelled) in
     let statements' = list_short p c levels 1 tree.procedures in
     let routines = list_routines p c levels 1 tree.procedures in
-    let declared = list_within (0 ∷ []) 1 tree.procedures in
+    let declared = blocks_paid (0 ∷ []) 1 tree.procedures in
     let variables = blocks_declared tree 1 bs (inner_blocks tree) in
     let statics = statics_most tree in
     let outer = outer_beside c 1 tree.procedures (shape_kept s tokens tree spelled).outer in

@@ -19,8 +19,9 @@ use Rattle.code_sizes.specs.StatementSizes.{variables_size, stmt_size, stmts_siz
 use Rattle.code_sizes.specs.ProgramSizes.{parameters_size, procedure_size, procedures_size}
 use Rattle.tree_tokens.specs.TreeTokens.{counting_tokens, condition_tokens, labels_tokens, parameters_tokens, list_tokens, commas_before}
 use Rattle.tree_tokens.specs.TreeTokens.{row_tokens, option_tokens, procedure_tokens, stmt_tokens, items_tokens}
-use Rattle.program_lengths.specs.StatementLengths.{stmt_beside, stmts_beside, procedures_beside, declared_tokens}
-use Rattle.program_lengths.specs.StatementLengths.{declares_tokens, blocks_size, LevelsFew, StatementsShort}
+use Rattle.program_lengths.specs.Declares.{declared_tokens, declares_tokens}
+use Rattle.program_lengths.specs.StatementLengths.{stmt_beside, stmts_beside, procedures_beside, blocks_size}
+use Rattle.program_lengths.specs.StatementLengths.{LevelsFew, StatementsShort}
 use Rattle.program_lengths.proofs.SingleLengths.{TurnsWithin, assign_within, call_within, return_within, goto_within}
 use Rattle.program_lengths.proofs.SingleLengths.{condition_within, turns_within}
 use Rattle.program_lengths.proofs.StorageLengths.{allocate_within, free_within, get_statement_within}

@@ -23,7 +23,15 @@ use Rattle.tree_tokens.specs.TreeTokens.{expr_tokens}
 use Rattle.program_lengths.specs.DeclaredLengths.{extent_words, bound_words, bounds_words, size_words, attribute_words}
 use Rattle.program_lengths.specs.DeclaredLengths.{attributes_words}
 use Rattle.program_lengths.proofs.SingleLengths.{number_within}
-use Rattle.program_lengths.proofs.DeclaredLengths.{open_words, helds_words, what_words, declared_words}
+use Rattle.program_lengths.proofs.DeclaredSums.{what_sum, declarations_sum}
+use Rattle.program_lengths.proofs.DeclaredLengths.{variable_words}
+
+abbrev open_words : Held → ℕ
+open_words h = bounds_words (dimensions_of h.variable) + attributes_words (own_attributes h)
+
+abbrev helds_words : List Held → ℕ
+helds_words [] = 0
+helds_words (h ∷ hs) = open_words h + helds_words hs
 
 -- ---- extents as they are written
 
@@ -201,7 +209,7 @@ each_most scope (all ∷ vs) =
 -- members stand behind the variable that they belong to
 variable_given : (w : What) (hs : List Held) (vs : List (List Held))
     → given_words (variable_then w hs vs) + helds_words (member_then w hs)
-    ≤ what_words w + (given_words vs + helds_words hs)
+    ≤ what_sum variable_words w + (given_words vs + helds_words hs)
 variable_given (Variable' h) hs vs = by (stands_alone h) (not (has 13 (own_attributes h))) where
   by : (b c : Bool)
       → given_words (if b && c then (h ∷ hs) ∷ vs else vs) + helds_words (if b then [] else h ∷ hs)
@@ -213,7 +221,7 @@ variable_given Label hs vs = omega arith
 variable_given (ProcedureName head) hs vs = omega arith
 
 all_given : (ds : List Declaration)
-    → given_words (variables_in ds) + helds_words (members_first ds) ≤ declared_words ds
+    → given_words (variables_in ds) + helds_words (members_first ds) ≤ declarations_sum variable_words ds
 all_given [] = omega arith
 all_given (d ∷ ds) =
     let one = variable_given d.what (members_first ds) (variables_in ds) in
@@ -221,7 +229,7 @@ all_given (d ∷ ds) =
     omega (arith, one, more)
 
 pub variables_most : (scope : Scope) (ds : List Declaration)
-    → wholes_size (each (declared_variable scope) (variables_in ds)).value ≤ declared_words ds
+    → wholes_size (each (declared_variable scope) (variables_in ds)).value ≤ declarations_sum variable_words ds
 variables_most scope ds =
     let each' = each_most scope (variables_in ds) in
     let all = all_given ds in

@@ -5,6 +5,7 @@ use Rattle.pli_language.specs.Tree as T
 use Rattle.pli_typing.specs.Variables.{is_open}
 use Rattle.tree_tokens.specs.TreeTokens.{expr_tokens}
 use Rattle.source_sizes.specs.Short.{words_for_a_token}
+use Rattle.program_lengths.specs.Declares.{declares_sum}
 
 -- ---- the words of open extents: each is evaluated, checked and filled in
 
@@ -52,21 +53,5 @@ abbrev pub declare_beside : List T.DeclareItem → ℕ
 declare_beside [] = 0
 declare_beside (d ∷ ds) = for_further (shared_words d) d.names + declare_beside ds
 
--- of all DECLARE statements in a part
-abbrev mutual
-  pub declared_beside : T.Stmt → ℕ
-  declared_beside (T.If condition unit place) = declared_beside unit
-  declared_beside (T.IfElse condition unit otherwise place) = declared_beside unit + declared_beside otherwise
-  declared_beside (T.Do body place) = declares_beside body
-  declared_beside (T.DoWhile condition body place) = declares_beside body
-  declared_beside (T.DoCount counting body place) = declares_beside body
-  declared_beside (T.Begin body place) = declares_beside body
-  declared_beside (T.OnUnit condition unit place) = declared_beside unit
-  declared_beside _ = 0
-
-  pub declares_beside : T.Items → ℕ
-  declares_beside T.NoItem = 0
-  declares_beside (T.ItemThen (T.Procedure head body) rest) = declares_beside body + declares_beside rest
-  declares_beside (T.ItemThen (T.Declare items place) rest) = declare_beside items + declares_beside rest
-  declares_beside (T.ItemThen (T.Statement labels statement) rest) = declared_beside statement + declares_beside rest
-  declares_beside (T.ItemThen (T.EndLabels labels place) rest) = declares_beside rest
+abbrev pub declares_beside : T.Items → ℕ
+declares_beside is = declares_sum declare_beside is

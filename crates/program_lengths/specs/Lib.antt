@@ -1,3 +1,4 @@
+pub mod Declares
 pub mod StatementLengths
 pub mod DeclaredLengths
 pub mod ProgramLengths

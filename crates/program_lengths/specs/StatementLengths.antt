@@ -10,8 +10,9 @@ use Rattle.pli_meaning.specs.DeclaredShapes.{variables_of_block}
 use Rattle.code_sizes.specs.StoringSizes.{record_size}
 use Rattle.code_sizes.specs.StatementSizes.{counter_size, variables_size, stmt_size, stmts_size}
 use Rattle.code_sizes.specs.ProgramSizes.{procedures_size}
-use Rattle.tree_tokens.specs.TreeTokens.{list_tokens, declare_tokens, stmt_tokens, items_tokens}
+use Rattle.tree_tokens.specs.TreeTokens.{stmt_tokens}
 use Rattle.source_sizes.specs.Short.{words_for_a_token}
+use Rattle.program_lengths.specs.Declares.{declared_tokens}
 
 -- ---- what no token pays for: an aggregate in GET or PUT, whose elements may be of three kinds, and a counter of DO,
 -- whose code stands three times
@@ -71,29 +72,7 @@ abbrev pub procedures_beside : List Y.Procedure → ℕ
 procedures_beside [] = 0
 procedures_beside (p ∷ ps) = block_beside p.block + procedures_beside ps
 
--- ---- declarations
-
--- the tokens of all DECLARE statements in a part, with their semicolons
-abbrev mutual
-  pub declared_tokens : T.Stmt → ℕ
-  declared_tokens (T.If condition unit place) = declared_tokens unit
-  declared_tokens (T.IfElse condition unit otherwise place) = declared_tokens unit + declared_tokens otherwise
-  declared_tokens (T.Do body place) = declares_tokens body
-  declared_tokens (T.DoWhile condition body place) = declares_tokens body
-  declared_tokens (T.DoCount counting body place) = declares_tokens body
-  declared_tokens (T.Begin body place) = declares_tokens body
-  declared_tokens (T.OnUnit condition unit place) = declared_tokens unit
-  declared_tokens _ = 0
-
-  pub declares_tokens : T.Items → ℕ
-  declares_tokens T.NoItem = 0
-  declares_tokens (T.ItemThen (T.Procedure head body) rest) = declares_tokens body + declares_tokens rest
-  declares_tokens (T.ItemThen (T.Declare items place) rest) =
-      (2 + list_tokens declare_tokens items) + declares_tokens rest
-  declares_tokens (T.ItemThen (T.Statement labels statement) rest) = declared_tokens statement + declares_tokens rest
-  declares_tokens (T.ItemThen (T.EndLabels labels place) rest) = declares_tokens rest
-
--- what these blocks declare, of which the first has this number
+-- ---- what these blocks declare, of which the first has this number
 abbrev pub blocks_size : Y.Program → (next : ℕ) → List Block → ℕ
 blocks_size p next [] = 0
 blocks_size p next (b ∷ bs) = variables_size (variables_of_block p next) + blocks_size p (next + 1) bs
