@@ -7,3 +7,4 @@ mod VariableLengths
 mod RoutineLengths
 mod LevelsFew
 mod ProgramLengths
+mod TableLengths

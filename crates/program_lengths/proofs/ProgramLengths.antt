@@ -97,7 +97,7 @@ outer_beside c next (T.ItemThen (T.Procedure head body) is) h =
     outer_beside c (behind_item c next (T.Procedure head body)) is h
 outer_beside c next _ h = absurd h
 
-inner_blocks : (tree : T.Tree) → HasAt (blocks_of tree) 1 (blocks_in (0 ∷ []) 1 tree.procedures)
+pub inner_blocks : (tree : T.Tree) → HasAt (blocks_of tree) 1 (blocks_in (0 ∷ []) 1 tree.procedures)
 unfolding blocks_of
 inner_blocks tree = has_end (blocks_of tree) (outermost ∷ []) (blocks_in (0 ∷ []) 1 tree.procedures) refl
 

@@ -120,7 +120,7 @@ mutual
   declared_most (T.OnUnit on unit place) = let inner = declared_most unit in omega (arith, inner)
   declared_most _ = omega arith
 
-  declares_most : (is : T.Items) → declares_tokens is ≤ items_tokens is
+  pub declares_most : (is : T.Items) → declares_tokens is ≤ items_tokens is
   declares_most T.NoItem = omega arith
   declares_most (T.ItemThen (T.Procedure head body) is) =
       let inner = declares_most body in

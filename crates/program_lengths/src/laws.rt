@@ -2,6 +2,7 @@
 
 ghost use Rattle.program_lengths.specs.StatementLengths.{StatementsShort};
 ghost use Rattle.program_lengths.specs.ProgramLengths.{ProgramsShort, ImagesShort};
+ghost use Rattle.program_lengths.specs.TableLengths.{TablesShort, TablesFit};
 
 /// The code of what statements of a source come to, with the procedures in them, has no more than 104 words for each
 /// token of theirs that stands in no declaration, beside what three forms take more, and what blocks in them declare.
@@ -18,4 +19,14 @@ pub fn programs_short()
 /// So has its image.
 pub fn images_short()
     ensures { ImagesShort }
+{}
+
+/// The table of signatures of an accepted source has no more than 11 words for each token.
+pub fn tables_short()
+    ensures { TablesShort }
+{}
+
+/// So it is one that an image holds.
+pub fn tables_fit()
+    ensures { TablesFit }
 {}
