@@ -8,3 +8,4 @@ mod RoutineLengths
 mod LevelsFew
 mod ProgramLengths
 mod TableLengths
+mod LengthRows

@@ -28,7 +28,7 @@ use Rattle.well_formed_trees.proofs.Shapes.{shape_kept}
 use Rattle.program_lengths.specs.StatementLengths.{stmts_beside, procedures_beside, blocks_size}
 use Rattle.program_lengths.specs.Declares.{declares_tokens}
 use Rattle.program_lengths.specs.DeclaredLengths.{declares_beside}
-use Rattle.program_lengths.specs.ProgramLengths.{beside, ProgramsShort, ImagesShort}
+use Rattle.program_lengths.specs.ProgramLengths.{beside, ProgramsShort, ImagesShort, SourcesShort}
 use Rattle.program_lengths.proofs.StatementLengths.{list_short}
 use Rattle.program_lengths.proofs.DeclaredSums.{declarations_sum, blocks_sum}
 use Rattle.program_lengths.proofs.DeclaredLengths.{variable_words, blocks_paid}
@@ -139,3 +139,7 @@ images_short parts s tokens tree t spelled =
     let words = programs_short s tokens tree t spelled in
     let code = programs_sized.1 parts (typed_tree tree) in
     omega (arith, words, code)
+
+pub sources_short : SourcesShort
+sources_short parts s tokens tree t spelled few =
+    let code = images_short parts s tokens tree t spelled in omega (arith, code, few)

@@ -34,3 +34,10 @@ abbrev pub ImagesShort : Type 0
 ImagesShort =
     (parts : MemoryParts) (s : List ℕ) (tokens : List Token) (tree : T.Tree) → Tokens s tokens → Spells s tokens tree
     → length (picture_of parts (typed_tree tree)).code ≤ most_words tree (length tokens)
+
+-- where these take no more than 3,957 words, the code is as short as it must be for an image to be given
+abbrev pub SourcesShort : Type 0
+SourcesShort =
+    (parts : MemoryParts) (s : List ℕ) (tokens : List Token) (tree : T.Tree) → Tokens s tokens → Spells s tokens tree
+    → fixed_words + beside tree ≤ 4000
+    → length (picture_of parts (typed_tree tree)).code ≤ 4000 + words_for_a_token * length tokens

@@ -1,7 +1,7 @@
 // Laws of the lengths of code, each of which a function carries.
 
 ghost use Rattle.program_lengths.specs.StatementLengths.{StatementsShort};
-ghost use Rattle.program_lengths.specs.ProgramLengths.{ProgramsShort, ImagesShort};
+ghost use Rattle.program_lengths.specs.ProgramLengths.{ProgramsShort, ImagesShort, SourcesShort};
 ghost use Rattle.program_lengths.specs.TableLengths.{TablesShort, TablesFit};
 
 /// The code of what statements of a source come to, with the procedures in them, has no more than 104 words for each
@@ -19,6 +19,11 @@ pub fn programs_short()
 /// So has its image.
 pub fn images_short()
     ensures { ImagesShort }
+{}
+
+/// Where these forms take no more than 3,957 words, the code has no more than 104 words for each token, and 4,000.
+pub fn sources_short()
+    ensures { SourcesShort }
 {}
 
 /// The table of signatures of an accepted source has no more than 11 words for each token.
