@@ -1,15 +1,15 @@
 -- What is declared takes no more words than its tokens allow, beside what names in parentheses share.
-use Rattle.std.proofs.Common.{◌≡◌, ℕ, ◌+◌, ◌*◌, ◌≤◌, Bool, true, false, List, [], ◌∷◌, ◌++◌, map, Option, Some, None}
+use Rattle.std.proofs.Common.{◌≡◌, ℕ, ◌+◌, ◌*◌, ◌≤◌, Bool, true, false, List, [], ◌∷◌, ◌++◌, map, Some}
 use Rattle.std.proofs.Common.{if◌then◌else◌, arith}
 use Rattle.std.specs.List.{flat_map}
 use Rattle.pli_language.specs.Tree as T
 use Rattle.pli_language.specs.Declarations.{Variable, dimensions_of, variables_of, blocks_in}
 use Rattle.pli_typing.specs.Variables.{is_open}
-use Rattle.tree_tokens.specs.TreeTokens.{expr_tokens, commas_before, list_tokens, row_tokens, extent_tokens}
+use Rattle.tree_tokens.specs.TreeTokens.{expr_tokens, commas_before, row_tokens, extent_tokens}
 use Rattle.tree_tokens.specs.TreeTokens.{bound_tokens, dimensions_tokens, attribute_tokens, name_tokens, names_tokens}
 use Rattle.tree_tokens.specs.TreeTokens.{declare_tokens}
 use Rattle.program_lengths.specs.Declares.{declared_sum, declares_sum, declaring_tokens, declares_tokens}
-use Rattle.program_lengths.specs.DeclaredLengths.{extent_words, bound_words, bounds_words, size_words, attribute_words}
+use Rattle.program_lengths.specs.DeclaredLengths.{extent_words, bound_words, bounds_words, attribute_words}
 use Rattle.program_lengths.specs.DeclaredLengths.{attributes_words, shared_words, for_each, for_further}
 use Rattle.program_lengths.specs.DeclaredLengths.{declare_beside, declares_beside}
 use Rattle.program_lengths.proofs.DeclaredSums.{variables_sum, blocks_sum, variables_split, list_summed}
@@ -78,7 +78,8 @@ named item names = map (λ d. record { declared = d; item = item }) names
 
 -- names with a comma before each
 further_names : (item : T.DeclareItem) (ds : List T.DeclaredName)
-    → variables_sum variable_words (named item ds) ≤ 104 * commas_before name_tokens ds + for_each (shared_words item) ds
+    → variables_sum variable_words (named item ds)
+    ≤ 104 * commas_before name_tokens ds + for_each (shared_words item) ds
 further_names item [] = omega arith
 further_names item (d ∷ ds) =
     let one = named_within item d in

@@ -1,5 +1,5 @@
 -- What some forms take beside their tokens, worked out by hand.
-use Rattle.std.proofs.Common.{◌≡◌, ℕ, List, [], ◌∷◌, map, None, Some, refl, pos}
+use Rattle.std.proofs.Common.{◌≡◌, ℕ, List, [], ◌∷◌, map, None, Some, refl}
 use Rattle.pli_language.specs.declared.token.Word.TheVariants as W
 use Rattle.pli_language.specs.declared.expr.Place.{Place}
 use Rattle.pli_language.specs.Tree as T

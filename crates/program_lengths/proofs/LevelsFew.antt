@@ -4,7 +4,7 @@ use Rattle.std.proofs.Common.{refl, ap, arith}
 use Rattle.std.specs.Prelude.{slice_get}
 use Rattle.pli_language.specs.Tree as T
 use Rattle.pli_language.specs.Declarations.{Block, blocks_in, blocks_in_item, blocks_in_stmt, blocks_of}
-use Rattle.pli_typing.specs.Variables.{level_of_block, depth_of_block}
+use Rattle.pli_typing.specs.Variables.{depth_of_block}
 use Rattle.well_formed_trees.specs.Every.{Every}
 use Rattle.well_formed_trees.specs.Spelled.{StmtHas, ItemHas, ItemsHave, IsRanged}
 use Rattle.well_formed_trees.proofs.Lists.{every_both}

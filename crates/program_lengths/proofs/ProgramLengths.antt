@@ -1,34 +1,30 @@
 -- A program's code has no more words than the tokens of its source allow, beside what three forms take more.
-use Rattle.std.proofs.Common.{◌≡◌, ℕ, zero, suc, ◌+◌, ◌*◌, ◌≤◌, List, [], ◌∷◌, ◌++◌, length, Option, Some, None}
+use Rattle.std.proofs.Common.{◌≡◌, ℕ, ◌+◌, ◌≤◌, List, [], ◌∷◌, ◌++◌, length, Some}
 use Rattle.std.proofs.Common.{refl, sym, ap, ◌∙◌, subst, arith}
 use Rattle.std.specs.Prelude.{slice_get, unwrap_or}
 use Rattle.pli_language.specs.Tree as T
-use Rattle.pli_language.specs.Declarations.{Declaration, Block, blocks_in, blocks_of, outermost}
+use Rattle.pli_language.specs.Declarations.{Block, blocks_in, blocks_of, outermost}
 use Rattle.pli_language.specs.Means.{declarations_of}
 use Rattle.pli_typing.specs.TypedTree as Y
-use Rattle.pli_typing.specs.Judging.{Scope, each}
-use Rattle.pli_typing.specs.Generations.{declared_variable, declared_variables}
-use Rattle.pli_typing.specs.Variables.{variables_in, declarations_at}
+use Rattle.pli_typing.specs.Judging.{Scope}
+use Rattle.pli_typing.specs.Generations.{declared_variables}
+use Rattle.pli_typing.specs.Variables.{declarations_at}
 use Rattle.pli_typing.specs.SingleStatements.{Context}
-use Rattle.pli_typing.specs.Resolving.{statements, behind_item, block_variables, outermost_context, resolved}
+use Rattle.pli_typing.specs.Resolving.{statements, behind_item, outermost_context, resolved}
 use Rattle.pli_typing.specs.Resolving.{typed_tree}
 use Rattle.pli_meaning.specs.DeclaredShapes.{variables_of_block}
-use Rattle.code_sizes.specs.StatementSizes.{variables_size}
-use Rattle.code_sizes.specs.StartSizes.{block_routines_size, block_statics_size, statics_size}
-use Rattle.code_sizes.specs.ProgramSizes.{procedures_size, program_size}
+use Rattle.code_sizes.specs.StartSizes.{block_statics_size, statics_size}
+use Rattle.code_sizes.specs.ProgramSizes.{procedures_size}
 use Rattle.code_sizes.proofs.ProgramSizes.{programs_sized}
-use Rattle.tree_tokens.specs.TreeTokens.{items_tokens}
 use Rattle.tree_tokens.proofs.Nests.{trees_spelled}
-use Rattle.well_formed_trees.specs.Written.{AreProcedures, IsShaped}
+use Rattle.well_formed_trees.specs.Written.{AreProcedures}
 use Rattle.well_formed_trees.proofs.HeadsInRange.{ranges_kept}
 use Rattle.well_formed_trees.proofs.ParameterVariables.{block_variables_are}
-use Rattle.well_formed_trees.proofs.Places.{HasAt, has_end, same_some}
+use Rattle.well_formed_trees.proofs.Places.{HasAt, has_end}
 use Rattle.well_formed_trees.proofs.ProgramNumbers.{no_procedure, lists_kept, outermost_kept}
 use Rattle.well_formed_trees.proofs.Shapes.{shape_kept}
 use Rattle.program_lengths.specs.StatementLengths.{stmts_beside, procedures_beside, blocks_size}
-use Rattle.program_lengths.specs.Declares.{declares_tokens}
-use Rattle.program_lengths.specs.DeclaredLengths.{declares_beside}
-use Rattle.program_lengths.specs.ProgramLengths.{beside, ProgramsShort, ImagesShort, SourcesShort}
+use Rattle.program_lengths.specs.ProgramLengths.{ProgramsShort, ImagesShort, SourcesShort}
 use Rattle.program_lengths.proofs.StatementLengths.{list_short}
 use Rattle.program_lengths.proofs.DeclaredSums.{declarations_sum, blocks_sum}
 use Rattle.program_lengths.proofs.DeclaredLengths.{variable_words, blocks_paid}

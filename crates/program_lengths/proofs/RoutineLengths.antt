@@ -75,7 +75,7 @@ blocks_split p next [] cs = by (next + 0) (omega arith) where
 blocks_split p next (b ∷ bs) cs =
     let more = blocks_split p (next + 1) bs cs in
     let at : routine_blocks p (next + 1 + length bs) cs ≡ routine_blocks p (next + suc (length bs)) cs =
-        ap (λ n. routine_blocks p n cs) (further next (length bs)) in
+    ap (λ n. routine_blocks p n cs) (further next (length bs)) in
     omega (arith, more, at)
   where
     further : (next n : ℕ) → next + 1 + n ≡ next + suc n
@@ -178,7 +178,8 @@ mutual
   stmt_routines p c v next (T.Begin body place) =
       let d = in_block c next (labels_in body) in
       let level = v next in
-      let own = block_more (suc (level_of_block c.scope.blocks next)) (omega (arith, level)) (variables_of_block p next) in
+      let own = block_more (suc (level_of_block c.scope.blocks next)) (omega (arith, level))
+      (variables_of_block p next) in
       let inner = list_routines p d v (next + 1) body in
       let held = held_split p (statements d (next + 1) body).procedures [] in
       omega (arith, own, inner, held)
@@ -189,7 +190,8 @@ mutual
       let held = held_split p s.procedures [] in
       omega (arith, own, inner, held)
   stmt_routines p c v next (T.Assign target source place) =
-      let own = simple_routines p (assign_statement c.scope target source place).value (assign_simple c.scope target source place) in
+      let own = simple_routines p (assign_statement c.scope target source place).value
+      (assign_simple c.scope target source place) in
       omega (arith, own)
   stmt_routines p c v next (T.Call name a place) =
       let own = simple_routines p (call_statement c.scope name a place).value (call_simple c.scope name a place) in

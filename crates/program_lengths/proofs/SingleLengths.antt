@@ -1,5 +1,5 @@
 -- What a statement that holds none comes to has no more words than its tokens allow.
-use Rattle.std.proofs.Common.{ℕ, suc, ◌+◌, ◌-◌, ◌*◌, ◌≤◌, Bool, true, false, List, [], ◌∷◌, Option, Some, None}
+use Rattle.std.proofs.Common.{ℕ, ◌+◌, ◌-◌, ◌*◌, ◌≤◌, Bool, true, false, List, Option, Some, None}
 use Rattle.std.proofs.Common.{if◌then◌else◌, arith}
 use Rattle.std.specs.Prelude.{is_some}
 use Rattle.pli_language.specs.declared.expr.Place.{Place}
@@ -15,7 +15,7 @@ use Rattle.pli_typing.specs.Variables.{what_at, name_means}
 use Rattle.pli_typing.specs.Calls.{result_type}
 use Rattle.pli_typing.specs.Converting.{Designated, Referent, Designates, Gives, GivesUnknown, GivesEmptyArea}
 use Rattle.pli_typing.specs.Converting.{GivesNothing, NotKnown, Operand, is_area, is_aggregate, element_type}
-use Rattle.pli_typing.specs.Converting.{scalar_type, variable_of, operand_value, operand_stored, own_bit_operand}
+use Rattle.pli_typing.specs.Converting.{scalar_type, variable_of, operand_value, operand_stored}
 use Rattle.pli_typing.specs.Assigning.{leaves_match, assigned_scalar, assigned_area, assigned_elements}
 use Rattle.pli_typing.specs.Assigning.{assigned_each, assigned_matching, assigned_aggregate, assigned_to}
 use Rattle.pli_typing.specs.Assigning.{assigned_referent, nothing_done, computational, computational_operand}
@@ -175,7 +175,8 @@ assign_within p scope target source place =
 -- ---- CALL, RETURN and GOTO
 
 called_within : (p : Y.Program) (w : ℕ) (blocks : List Block) (b : ℕ) (o : Option What) (name : T.Name)
-    (place : Place) (os : List Operand) → AllShort w os → IsWithin p (w + 16) (called_what blocks b o name place os).value
+    (place : Place) (os : List Operand) → AllShort w os
+    → IsWithin p (w + 16) (called_what blocks b o name place os).value
 called_within p w blocks b None name place os h = omega arith
 called_within p w blocks b (Some Label) name place os h = omega arith
 called_within p w blocks b (Some (Variable' v)) name place os h = omega arith

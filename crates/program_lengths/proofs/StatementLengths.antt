@@ -1,6 +1,6 @@
 -- What statements come to, with the procedures in them, has no more words than their tokens allow, beside what
 -- declarations and three forms take more.
-use Rattle.std.proofs.Common.{◌≡◌, ℕ, zero, suc, ◌+◌, ◌*◌, ◌≤◌, List, [], ◌∷◌, ◌++◌, map, length, Option, Some, None}
+use Rattle.std.proofs.Common.{◌≡◌, ℕ, suc, ◌+◌, ◌*◌, ◌≤◌, List, [], ◌∷◌, ◌++◌, map, length}
 use Rattle.std.proofs.Common.{ap, subst, arith}
 use Rattle.pli_language.specs.declared.condition.Condition.{Condition}
 use Rattle.pli_language.specs.declared.condition.Condition.TheVariants as C
@@ -8,17 +8,14 @@ use Rattle.pli_language.specs.Tree as T
 use Rattle.pli_language.specs.Declarations.{Block, blocks_in, blocks_in_item, blocks_in_stmt}
 use Rattle.pli_typing.specs.TypedTree as Y
 use Rattle.pli_typing.specs.Calls.{parameter_indices}
-use Rattle.pli_typing.specs.Variables.{level_of_block}
 use Rattle.pli_typing.specs.SingleStatements.{Context, Turns, OneTurn, CountedTurns, in_list, in_block, in_unit}
-use Rattle.pli_typing.specs.SingleStatements.{labels_in, condition, turns, do_statement}
-use Rattle.pli_typing.specs.SingleStatements.{goto_statement, call_statement, return_statement, assign_statement}
+use Rattle.pli_typing.specs.SingleStatements.{labels_in, turns, do_statement}
 use Rattle.pli_typing.specs.Resolving.{statement, statements, unit_of, procedure_of, behind_stmt, behind_item}
 use Rattle.pli_meaning.specs.DeclaredShapes.{variables_of_block}
-use Rattle.code_sizes.specs.ExpressionSizes.{bit_size}
 use Rattle.code_sizes.specs.StatementSizes.{variables_size, stmt_size, stmts_size}
 use Rattle.code_sizes.specs.ProgramSizes.{parameters_size, procedure_size, procedures_size}
-use Rattle.tree_tokens.specs.TreeTokens.{counting_tokens, condition_tokens, labels_tokens, parameters_tokens, list_tokens, commas_before}
-use Rattle.tree_tokens.specs.TreeTokens.{row_tokens, option_tokens, procedure_tokens, stmt_tokens, items_tokens}
+use Rattle.tree_tokens.specs.TreeTokens.{counting_tokens, condition_tokens, parameters_tokens, commas_before}
+use Rattle.tree_tokens.specs.TreeTokens.{procedure_tokens, stmt_tokens, items_tokens}
 use Rattle.program_lengths.specs.Declares.{declared_tokens, declares_tokens}
 use Rattle.program_lengths.specs.StatementLengths.{stmt_beside, stmts_beside, procedures_beside, blocks_size}
 use Rattle.program_lengths.specs.StatementLengths.{LevelsFew, StatementsShort}
@@ -50,7 +47,7 @@ blocks_split p next [] cs = by (next + 0) (omega arith) where
 blocks_split p next (b ∷ bs) cs =
     let more = blocks_split p (next + 1) bs cs in
     let at : blocks_size p (next + 1 + length bs) cs ≡ blocks_size p (next + suc (length bs)) cs =
-        ap (λ n. blocks_size p n cs) (further next (length bs)) in
+    ap (λ n. blocks_size p n cs) (further next (length bs)) in
     omega (arith, more, at)
 
 -- ---- blocks and groups
@@ -202,7 +199,8 @@ mutual
       let d = in_list c (labels_in body) in
       let ss = statements d next body in
       let t = (turns c.scope counting).value in
-      let own = do_within p (104 * (4 + counting_tokens counting)) t ss.value place.line (turns_within c.scope counting) in
+      let own = do_within p (104 * (4 + counting_tokens counting)) t ss.value place.line
+      (turns_within c.scope counting) in
       let inner = list_short p d v next body in
       let sizes = both_sizes p ss.procedures [] in
       let beside = both_beside ss.procedures [] in

@@ -1,5 +1,5 @@
 -- ALLOCATE, FREE, GET and PUT come to no more words than their tokens allow, beside what aggregates take more.
-use Rattle.std.proofs.Common.{ℕ, suc, ◌+◌, ◌-◌, ◌*◌, ◌≤◌, min, Bool, true, false, ◌||◌, List, [], ◌∷◌, Option, Some}
+use Rattle.std.proofs.Common.{ℕ, ◌+◌, ◌*◌, ◌≤◌, Bool, true, false, ◌||◌, List, [], ◌∷◌, Option, Some}
 use Rattle.std.proofs.Common.{None, if◌then◌else◌, arith}
 use Rattle.std.specs.Prelude.{⊤, is_some}
 use Rattle.pli_language.specs.declared.expr.Place.{Place}
@@ -26,13 +26,13 @@ use Rattle.pli_typing.specs.SingleStatements.{allocate_statement, free_statement
 use Rattle.pli_typing.specs.SingleStatements.{put_statement}
 use Rattle.code_sizes.specs.ExpressionSizes.{pointer_size, reference_size, locator_size}
 use Rattle.code_sizes.specs.StoringSizes.{target_size, allocation_size, allocations_size, freeing_size, freeings_size}
-use Rattle.code_sizes.specs.StoringSizes.{record_size}
 use Rattle.code_sizes.specs.StreamSizes.{put_item_size, put_items_size, put_pairs_size, get_item_size, get_items_size}
 use Rattle.code_sizes.specs.StreamSizes.{get_pairs_size}
 use Rattle.code_sizes.specs.StatementSizes.{stmt_size}
-use Rattle.tree_tokens.specs.TreeTokens.{expr_tokens, qualified_tokens, reference_tokens, further_tokens, tokens_if, commas_before}
+use Rattle.tree_tokens.specs.TreeTokens.{expr_tokens, qualified_tokens, reference_tokens, further_tokens, tokens_if}
+use Rattle.tree_tokens.specs.TreeTokens.{commas_before}
 use Rattle.tree_tokens.specs.TreeTokens.{list_tokens, row_tokens, placed_tokens, allocation_tokens, freeing_tokens}
-use Rattle.tree_tokens.specs.TreeTokens.{formats_tokens, pair_tokens, edit_tokens, skip_tokens, moved_tokens}
+use Rattle.tree_tokens.specs.TreeTokens.{pair_tokens, edit_tokens, moved_tokens}
 use Rattle.well_formed_trees.proofs.Lists.{HoldsIf}
 use Rattle.source_sizes.specs.Short.{Short, most_words}
 use Rattle.source_sizes.proofs.Values.{short_more, OperandShort, operand_short}

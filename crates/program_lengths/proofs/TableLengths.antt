@@ -1,5 +1,5 @@
 -- The table of an accepted source has no more words than its names allow.
-use Rattle.std.proofs.Common.{◌≡◌, ℕ, ◌+◌, ◌*◌, ◌^◌, ◌≤◌, Bool, true, false, not, ◌&&◌, List, [], ◌∷◌, ◌++◌, map, length}
+use Rattle.std.proofs.Common.{◌≡◌, ℕ, ◌+◌, ◌*◌, ◌≤◌, Bool, true, false, not, ◌&&◌, List, [], ◌∷◌, ◌++◌, map, length}
 use Rattle.std.proofs.Common.{Option, Some, None, if◌then◌else◌, refl, sym, ap, subst, arith}
 use Rattle.std.specs.Prelude.{slice_get, unwrap_or}
 use Rattle.std.specs.List.{flat_map}
@@ -8,7 +8,7 @@ use Rattle.pli_language.specs.Tokens.{Tokens}
 use Rattle.pli_language.specs.Parsing.{Spells}
 use Rattle.pli_language.specs.Tree as T
 use Rattle.pli_language.specs.Declarations.{Variable, variables_of, Held, What, Variable', Label, ProcedureName}
-use Rattle.pli_language.specs.Declarations.{Declaration, Block, blocks_in, blocks_of, outermost}
+use Rattle.pli_language.specs.Declarations.{Declaration, Block, blocks_in, blocks_of}
 use Rattle.pli_language.specs.Declaring.{has, own_attributes, stands_alone, is_deeper, declaring_faults}
 use Rattle.pli_language.specs.Means.{declarations_of}
 use Rattle.pli_typing.specs.TypedTree as Y
@@ -19,11 +19,11 @@ use Rattle.pli_typing.specs.Variables.{leaves_in, members_first, member_then, va
 use Rattle.pli_typing.specs.Variables.{variable_meant, declarations_at, leaf_of, written_extents}
 use Rattle.pli_typing.specs.Resolving.{typing_faults, typed_tree}
 use Rattle.pli_meaning.specs.DeclaredShapes.{variables_of_block}
-use Rattle.rv_meaning.specs.Tables.{TableLeaf, TableSignature, pairs_words, leaf_words, leaves_words, signature_words}
+use Rattle.rv_meaning.specs.Tables.{TableSignature, pairs_words, leaf_words, leaves_words, signature_words}
 use Rattle.rv_meaning.specs.Tables.{table_words}
 use Rattle.pli_coding.specs.SignatureTable.{pair_of, leaf_of_type, table_leaf, signature_of, same_signature}
-use Rattle.pli_coding.specs.SignatureTable.{with_signature, with_signatures, table_of}
-use Rattle.tree_tokens.specs.TreeTokens.{commas_before, list_tokens, name_tokens, names_tokens, declare_tokens}
+use Rattle.pli_coding.specs.SignatureTable.{with_signature, with_signatures}
+use Rattle.tree_tokens.specs.TreeTokens.{commas_before, name_tokens, names_tokens, declare_tokens}
 use Rattle.well_formed_trees.specs.Every.{Every}
 use Rattle.well_formed_trees.specs.Held as H
 use Rattle.well_formed_trees.specs.Surroundings.{Around}
@@ -34,9 +34,8 @@ use Rattle.well_formed_trees.proofs.ParameterVariables.{block_variables_are}
 use Rattle.well_formed_trees.proofs.Places.{HasAt, has_end}
 use Rattle.well_formed_trees.proofs.ProgramNumbers.{lists_kept, outermost_kept}
 use Rattle.well_formed_trees.proofs.StructuredVariables.{none_behind}
-use Rattle.tree_tokens.specs.TreeTokens.{items_tokens, tree_tokens}
 use Rattle.tree_tokens.proofs.Nests.{trees_spelled}
-use Rattle.program_lengths.specs.Declares.{declaring_tokens, declares_tokens}
+use Rattle.program_lengths.specs.Declares.{declaring_tokens}
 use Rattle.program_lengths.specs.TableLengths.{TablesShort, TablesFit}
 use Rattle.program_lengths.proofs.StatementLengths.{declares_most}
 use Rattle.program_lengths.proofs.DeclaredSums.{variables_sum, what_sum, declarations_sum, blocks_sum, variables_split}
@@ -249,7 +248,7 @@ block_declared tree n b e h =
     let own = each_most scope (variables_in (declarations_at (blocks_of tree) n)) few in
     let given = all_given (declarations_at (blocks_of tree) n) in
     let most : signatures_length (declared_variables scope).value
-        ≤ 11 * declarations_sum two (declarations_at (blocks_of tree) n) = omega (arith, own, given) in
+    ≤ 11 * declarations_sum two (declarations_at (blocks_of tree) n) = omega (arith, own, given) in
     subst (λ ds. signatures_length ds ≤ 11 * declarations_sum two b.declarations) (sym is)
     (subst (λ ds. signatures_length (declared_variables scope).value ≤ 11 * declarations_sum two ds) same most)
 

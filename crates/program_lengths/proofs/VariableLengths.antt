@@ -1,5 +1,5 @@
 -- What is made and evaluated for the variables of a block takes no more words than what is declared is given.
-use Rattle.std.proofs.Common.{◌≡◌, ℕ, suc, ◌+◌, ◌*◌, ◌≤◌, Bool, true, false, not, ◌&&◌, List, [], ◌∷◌, ◌++◌, Option}
+use Rattle.std.proofs.Common.{◌≡◌, ℕ, ◌+◌, ◌*◌, ◌≤◌, Bool, true, false, not, ◌&&◌, List, [], ◌∷◌, ◌++◌}
 use Rattle.std.proofs.Common.{Some, None, if◌then◌else◌, arith}
 use Rattle.std.specs.List.{flat_map}
 use Rattle.pli_language.specs.Tree as T
@@ -20,7 +20,7 @@ use Rattle.pli_coding.specs.Procedures.{has_routine}
 use Rattle.code_sizes.specs.StatementSizes.{evaluations_size, extents_size, made_size, automatic_size, variables_size}
 use Rattle.code_sizes.specs.StartSizes.{routine_size, block_routines_size, class_size, static_size, block_statics_size}
 use Rattle.tree_tokens.specs.TreeTokens.{expr_tokens}
-use Rattle.program_lengths.specs.DeclaredLengths.{extent_words, bound_words, bounds_words, size_words, attribute_words}
+use Rattle.program_lengths.specs.DeclaredLengths.{extent_words, bound_words, bounds_words, attribute_words}
 use Rattle.program_lengths.specs.DeclaredLengths.{attributes_words}
 use Rattle.program_lengths.proofs.SingleLengths.{number_within}
 use Rattle.program_lengths.proofs.DeclaredSums.{what_sum, declarations_sum}

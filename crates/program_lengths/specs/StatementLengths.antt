@@ -1,14 +1,14 @@
 -- How many words the code has at most of what statements of a source come to, by the tokens that they are spelled with.
 use Rattle.std.specs.Prelude.{ℕ, ◌+◌, ◌-◌, ◌*◌, ◌≤◌, min, List, [], ◌∷◌}
 use Rattle.pli_language.specs.Tree as T
-use Rattle.pli_language.specs.Declarations.{Block, blocks_in_stmt, blocks_in}
+use Rattle.pli_language.specs.Declarations.{Block, blocks_in_stmt}
 use Rattle.pli_typing.specs.TypedTree as Y
 use Rattle.pli_typing.specs.Variables.{level_of_block}
 use Rattle.pli_typing.specs.SingleStatements.{Context}
-use Rattle.pli_typing.specs.Resolving.{statement, statements}
+use Rattle.pli_typing.specs.Resolving.{statement}
 use Rattle.pli_meaning.specs.DeclaredShapes.{variables_of_block}
 use Rattle.code_sizes.specs.StoringSizes.{record_size}
-use Rattle.code_sizes.specs.StatementSizes.{counter_size, variables_size, stmt_size, stmts_size}
+use Rattle.code_sizes.specs.StatementSizes.{counter_size, variables_size, stmt_size}
 use Rattle.code_sizes.specs.ProgramSizes.{procedures_size}
 use Rattle.tree_tokens.specs.TreeTokens.{stmt_tokens}
 use Rattle.source_sizes.specs.Short.{words_for_a_token}
