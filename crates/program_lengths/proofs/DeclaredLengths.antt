@@ -10,7 +10,7 @@ use Rattle.tree_tokens.specs.TreeTokens.{bound_tokens, dimensions_tokens, attrib
 use Rattle.tree_tokens.specs.TreeTokens.{declare_tokens}
 use Rattle.program_lengths.specs.Declares.{declared_sum, declares_sum, declaring_tokens, declares_tokens}
 use Rattle.program_lengths.specs.DeclaredLengths.{extent_words, bound_words, bounds_words, attribute_words}
-use Rattle.program_lengths.specs.DeclaredLengths.{attributes_words, shared_words, for_each, for_further}
+use Rattle.program_lengths.specs.DeclaredLengths.{attributes_words, shared_words, for_each, item_beside}
 use Rattle.program_lengths.specs.DeclaredLengths.{declare_beside, declares_beside}
 use Rattle.program_lengths.proofs.DeclaredSums.{variables_sum, blocks_sum, variables_split, list_summed}
 
@@ -88,7 +88,7 @@ further_names item (d ∷ ds) =
 
 names_within : (item : T.DeclareItem) (ds : List T.DeclaredName)
     → variables_sum variable_words (named item ds)
-    ≤ 104 * (1 + names_tokens ds) + (shared_words item + for_further (shared_words item) ds)
+    ≤ 104 * (1 + names_tokens ds) + for_each (shared_words item) ds
 names_within item [] = omega arith
 names_within item (d ∷ []) = let one = named_within item d in omega (arith, one)
 names_within item (d ∷ e ∷ ds) =
@@ -98,12 +98,8 @@ names_within item (d ∷ e ∷ ds) =
 
 item_within : (item : T.DeclareItem)
     → variables_sum variable_words (variables_of item)
-    ≤ 104 * (1 + declare_tokens item) + for_further (shared_words item) item.names
-item_within item =
-    let names = names_within item item.names in
-    let bounds = bounds_within item.dimensions in
-    let attributes = attributes_within item.attributes in
-    omega (arith, names, bounds, attributes)
+    ≤ 104 * (1 + declare_tokens item) + item_beside item
+item_within item = let names = names_within item item.names in omega (arith, names)
 
 further_items : (items : List T.DeclareItem)
     → variables_sum variable_words (flat_map variables_of items)

@@ -73,11 +73,11 @@ item ds e = record { level = None; names = ds; dimensions = []; attributes = siz
 abbrev amount : T.Expr
 amount = T.Refers (T.Plain (T.Last (name (78 ∷ [])) T.Absent))
 
--- DCL (A, B, C) CHAR(N): two names evaluate N again; DCL (A, B, C) CHAR(5), and DCL A CHAR(N)
+-- DCL (A, B, C) CHAR(N): each name has 186 words, and four tokens pay 416; DCL (A, B, C) CHAR(5), and DCL A CHAR(N)
 shared :
     map declare_beside ((item names amount ∷ []) ∷ (item names (T.Number 5 place) ∷ [])
     ∷ (item (record { name = name (65 ∷ []); dimensions = [] } ∷ []) amount ∷ []) ∷ [])
-    ≡ (372 ∷ 0 ∷ 0 ∷ [])
+    ≡ (142 ∷ 0 ∷ 0 ∷ [])
 shared = refl
 
 -- seven in parentheses, CHAR, three for N, and two for DCL and the semicolon

@@ -37,8 +37,8 @@ use Rattle.well_formed_trees.proofs.Lists.{HoldsIf}
 use Rattle.source_sizes.specs.Short.{Short, most_words}
 use Rattle.source_sizes.proofs.Values.{short_more, OperandShort, operand_short}
 use Rattle.source_sizes.proofs.Expressions.{IsPlain, plain_found, references_short, further_most}
-use Rattle.program_lengths.specs.StatementLengths.{get_item_beside, get_items_beside, get_beside, put_item_beside}
-use Rattle.program_lengths.specs.StatementLengths.{put_items_beside, put_beside, stmt_beside}
+use Rattle.program_lengths.specs.StatementLengths.{get_item_beside, get_items_beside, get_pairs_beside}
+use Rattle.program_lengths.specs.StatementLengths.{put_item_beside, put_items_beside, put_pairs_beside, stmt_beside}
 use Rattle.program_lengths.proofs.SingleLengths.{spelled_operand, record_most, computed_within}
 
 -- ---- ALLOCATE, with the words of its locator
@@ -345,7 +345,7 @@ puts_within w (o ∷ os) q =
 
 get_pairs_within : (scope : Scope) (ps : List T.EditPair)
     → get_pairs_size (each (get_of scope) ps).value
-    ≤ 104 * row_tokens pair_tokens ps + (2 + get_beside (each (get_of scope) ps).value)
+    ≤ 104 * row_tokens pair_tokens ps + (2 + get_pairs_beside (each (get_of scope) ps).value)
 get_pairs_within scope [] = omega arith
 get_pairs_within scope (p ∷ ps) =
     let one = gets_within (104 * further_tokens p.items) (holds_fixed p.formats) (expressions scope p.items).value
@@ -356,7 +356,7 @@ get_pairs_within scope (p ∷ ps) =
 
 put_pairs_within : (scope : Scope) (ps : List T.EditPair)
     → put_pairs_size (each (put_of scope) ps).value
-    ≤ 104 * row_tokens pair_tokens ps + put_beside (each (put_of scope) ps).value
+    ≤ 104 * row_tokens pair_tokens ps + put_pairs_beside (each (put_of scope) ps).value
 put_pairs_within scope [] = omega arith
 put_pairs_within scope (p ∷ ps) =
     let one = puts_within (104 * further_tokens p.items) (expressions scope p.items).value
@@ -365,24 +365,18 @@ put_pairs_within scope (p ∷ ps) =
     let more = put_pairs_within scope ps in
     omega (arith, one, commas, more)
 
-edit_most : (ps : List T.EditPair) → row_tokens pair_tokens ps ≤ edit_tokens ps
-edit_most [] = omega arith
-edit_most (p ∷ ps) = omega arith
-
 pub get_statement_within : (p : Y.Program) (scope : Scope) (skip : Option T.Skip) (ps : List T.EditPair)
     (place : Place)
     → stmt_size p (get_statement scope skip ps place).value
     ≤ 104 * moved_tokens skip ps + stmt_beside (get_statement scope skip ps place).value
-get_statement_within p scope skip ps place =
-    let words = get_pairs_within scope ps in
-    let tokens = edit_most ps in
-    omega (arith, words, tokens)
+get_statement_within p scope skip [] place = omega arith
+get_statement_within p scope skip (q ∷ ps) place =
+    let words = get_pairs_within scope (q ∷ ps) in omega (arith, words)
 
 pub put_statement_within : (p : Y.Program) (scope : Scope) (skip : Option T.Skip) (ps : List T.EditPair)
     (place : Place)
     → stmt_size p (put_statement scope skip ps place).value
     ≤ 104 * moved_tokens skip ps + stmt_beside (put_statement scope skip ps place).value
-put_statement_within p scope skip ps place =
-    let words = put_pairs_within scope ps in
-    let tokens = edit_most ps in
-    omega (arith, words, tokens)
+put_statement_within p scope skip [] place = omega arith
+put_statement_within p scope skip (q ∷ ps) place =
+    let words = put_pairs_within scope (q ∷ ps) in omega (arith, words)

@@ -1,9 +1,9 @@
 -- What declarations take beside the tokens that they are spelled with: names in parentheses share their extents, and
 -- the code evaluates these for each name.
-use Rattle.std.specs.Prelude.{ℕ, ◌+◌, ◌*◌, List, [], ◌∷◌, Option, Some, if◌then◌else◌}
+use Rattle.std.specs.Prelude.{ℕ, ◌+◌, ◌-◌, ◌*◌, List, [], ◌∷◌, Option, Some, if◌then◌else◌}
 use Rattle.pli_language.specs.Tree as T
 use Rattle.pli_typing.specs.Variables.{is_open}
-use Rattle.tree_tokens.specs.TreeTokens.{expr_tokens}
+use Rattle.tree_tokens.specs.TreeTokens.{expr_tokens, row_tokens, dimensions_tokens, attribute_tokens}
 use Rattle.source_sizes.specs.Short.{words_for_a_token}
 use Rattle.program_lengths.specs.Declares.{declares_sum}
 
@@ -39,19 +39,20 @@ attributes_words (a ∷ as') = attribute_words a + attributes_words as'
 abbrev pub shared_words : T.DeclareItem → ℕ
 shared_words d = bounds_words d.dimensions + attributes_words d.attributes
 
--- so much for each name
+abbrev pub shared_tokens : T.DeclareItem → ℕ
+shared_tokens d = dimensions_tokens d.dimensions + row_tokens attribute_tokens d.attributes
+
 abbrev pub for_each : {X : Type 0} → (words : ℕ) → List X → ℕ
 for_each words [] = 0
 for_each words (x ∷ xs) = words + for_each words xs
 
--- for each but the first
-abbrev pub for_further : {X : Type 0} → (words : ℕ) → List X → ℕ
-for_further words [] = 0
-for_further words (x ∷ xs) = for_each words xs
+-- so much for each name, of which the tokens that they share pay a part
+abbrev pub item_beside : T.DeclareItem → ℕ
+item_beside d = for_each (shared_words d) d.names - words_for_a_token * shared_tokens d
 
 abbrev pub declare_beside : List T.DeclareItem → ℕ
 declare_beside [] = 0
-declare_beside (d ∷ ds) = for_further (shared_words d) d.names + declare_beside ds
+declare_beside (d ∷ ds) = item_beside d + declare_beside ds
 
 abbrev pub declares_beside : T.Items → ℕ
 declares_beside is = declares_sum declare_beside is

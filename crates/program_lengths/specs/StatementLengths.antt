@@ -25,9 +25,13 @@ abbrev pub get_items_beside : List Y.GetItem → ℕ
 get_items_beside [] = 0
 get_items_beside (i ∷ is) = get_item_beside i + get_items_beside is
 
+-- the parentheses of a list of items, and the statement's own words, pay a part
+abbrev pub get_pairs_beside : List Y.GetPair → ℕ
+get_pairs_beside [] = 0
+get_pairs_beside (p ∷ ps) = (get_items_beside p.items - 201) + get_pairs_beside ps
+
 abbrev pub get_beside : List Y.GetPair → ℕ
-get_beside [] = 0
-get_beside (p ∷ ps) = get_items_beside p.items + get_beside ps
+get_beside ps = get_pairs_beside ps - 298
 
 -- an array or a structure that is reached by no locator takes none
 abbrev pub put_item_beside : Y.PutItem → ℕ
@@ -38,9 +42,12 @@ abbrev pub put_items_beside : List Y.PutItem → ℕ
 put_items_beside [] = 0
 put_items_beside (i ∷ is) = put_item_beside i + put_items_beside is
 
+abbrev pub put_pairs_beside : List Y.PutPair → ℕ
+put_pairs_beside [] = 0
+put_pairs_beside (p ∷ ps) = (put_items_beside p.items - 201) + put_pairs_beside ps
+
 abbrev pub put_beside : List Y.PutPair → ℕ
-put_beside [] = 0
-put_beside (p ∷ ps) = put_items_beside p.items + put_beside ps
+put_beside ps = put_pairs_beside ps - 302
 
 -- a counter whose code has at most 167 words takes none
 abbrev pub counter_beside : Y.Counter → ℕ
