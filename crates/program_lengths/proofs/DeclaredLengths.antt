@@ -1,16 +1,18 @@
 -- What is declared takes no more words than its tokens allow, beside what names in parentheses share.
-use Rattle.std.proofs.Common.{◌≡◌, ℕ, ◌+◌, ◌*◌, ◌≤◌, Bool, true, false, List, [], ◌∷◌, ◌++◌, map, Some}
+use Rattle.std.proofs.Common.{◌≡◌, ℕ, ◌+◌, ◌-◌, ◌*◌, ◌≤◌, ◌||◌, Bool, true, false, List, [], ◌∷◌, ◌++◌, map, Some}
 use Rattle.std.proofs.Common.{if◌then◌else◌, arith}
 use Rattle.std.specs.List.{flat_map}
 use Rattle.pli_language.specs.Tree as T
 use Rattle.pli_language.specs.Declarations.{Variable, dimensions_of, variables_of, blocks_in}
+use Rattle.pli_language.specs.Declaring.{has}
 use Rattle.pli_typing.specs.Variables.{is_open}
 use Rattle.tree_tokens.specs.TreeTokens.{expr_tokens, commas_before, row_tokens, extent_tokens}
 use Rattle.tree_tokens.specs.TreeTokens.{bound_tokens, dimensions_tokens, attribute_tokens, name_tokens, names_tokens}
 use Rattle.tree_tokens.specs.TreeTokens.{declare_tokens}
 use Rattle.program_lengths.specs.Declares.{declared_sum, declares_sum, declaring_tokens, declares_tokens}
 use Rattle.program_lengths.specs.DeclaredLengths.{extent_words, bound_words, bounds_words, attribute_words}
-use Rattle.program_lengths.specs.DeclaredLengths.{attributes_words, shared_words, for_each, item_beside}
+use Rattle.program_lengths.specs.DeclaredLengths.{attributes_words, shared_words, for_each, spare_words}
+use Rattle.program_lengths.specs.DeclaredLengths.{item_beside}
 use Rattle.program_lengths.specs.DeclaredLengths.{declare_beside, declares_beside}
 use Rattle.program_lengths.proofs.DeclaredSums.{variables_sum, blocks_sum, variables_split, list_summed}
 
@@ -56,10 +58,20 @@ attributes_within (a ∷ as') =
     let more = attributes_within as' in
     omega (arith, one, more)
 
--- ---- variables, each of which is given 208 words beside its extents
+-- ---- variables, each of which is given at most 208 words beside its extents
 
 abbrev pub variable_words : Variable → ℕ
-variable_words v = 208 + (bounds_words (dimensions_of v) + attributes_words v.item.attributes)
+variable_words v =
+    (208 - spare_words v.item.attributes) + (bounds_words (dimensions_of v) + attributes_words v.item.attributes)
+
+spare_most : (as' : List T.Attribute) → spare_words as' ≤ 145
+spare_most as' = by (has 9 as' || has 10 as' || has 11 as') where
+  by : (b : Bool) → (if b then 0 else 145) ≤ 145
+  by true = omega arith
+  by false = omega arith
+
+abbrev unpaid : T.DeclareItem → ℕ
+unpaid item = shared_words item - spare_words item.attributes
 
 bounds_split : (as' bs : List T.Bound) → bounds_words (as' ++ bs) ≡ bounds_words as' + bounds_words bs
 bounds_split [] bs = omega arith
@@ -67,11 +79,12 @@ bounds_split (a ∷ as') bs = let more = bounds_split as' bs in omega (arith, mo
 
 -- a name by itself, with what it shares
 named_within : (item : T.DeclareItem) (d : T.DeclaredName)
-    → variable_words (record { declared = d; item = item }) ≤ 104 * (1 + name_tokens d) + shared_words item
+    → variable_words (record { declared = d; item = item }) ≤ 104 * (1 + name_tokens d) + unpaid item
 named_within item d =
     let own = bounds_within d.dimensions in
     let all = bounds_split d.dimensions item.dimensions in
-    omega (arith, own, all)
+    let spare = spare_most item.attributes in
+    omega (arith, own, all, spare)
 
 abbrev named : T.DeclareItem → List T.DeclaredName → List Variable
 named item names = map (λ d. record { declared = d; item = item }) names
@@ -79,7 +92,7 @@ named item names = map (λ d. record { declared = d; item = item }) names
 -- names with a comma before each
 further_names : (item : T.DeclareItem) (ds : List T.DeclaredName)
     → variables_sum variable_words (named item ds)
-    ≤ 104 * commas_before name_tokens ds + for_each (shared_words item) ds
+    ≤ 104 * commas_before name_tokens ds + for_each (unpaid item) ds
 further_names item [] = omega arith
 further_names item (d ∷ ds) =
     let one = named_within item d in
@@ -88,7 +101,7 @@ further_names item (d ∷ ds) =
 
 names_within : (item : T.DeclareItem) (ds : List T.DeclaredName)
     → variables_sum variable_words (named item ds)
-    ≤ 104 * (1 + names_tokens ds) + for_each (shared_words item) ds
+    ≤ 104 * (1 + names_tokens ds) + for_each (unpaid item) ds
 names_within item [] = omega arith
 names_within item (d ∷ []) = let one = named_within item d in omega (arith, one)
 names_within item (d ∷ e ∷ ds) =

@@ -73,11 +73,15 @@ item ds e = record { level = None; names = ds; dimensions = []; attributes = siz
 abbrev amount : T.Expr
 amount = T.Refers (T.Plain (T.Last (name (78 ∷ [])) T.Absent))
 
--- DCL (A, B, C) CHAR(N): each name has 186 words, and four tokens pay 416; DCL (A, B, C) CHAR(5), and DCL A CHAR(N)
+abbrev controlled : List T.DeclaredName → T.Expr → T.DeclareItem
+controlled ds e = record { level = None; names = ds; dimensions = []; attributes = size e ∷ T.Controlled ∷ [] }
+
+-- DCL (A, B, C) CHAR(N), where each name has 186 words: an AUTOMATIC one pays 145 of them, and what is behind them the
+-- rest; for CONTROLLED ones these five tokens pay 520; DCL A CHAR(N) CONTROLLED
 shared :
-    map declare_beside ((item names amount ∷ []) ∷ (item names (T.Number 5 place) ∷ [])
-    ∷ (item (record { name = name (65 ∷ []); dimensions = [] } ∷ []) amount ∷ []) ∷ [])
-    ≡ (142 ∷ 0 ∷ 0 ∷ [])
+    map declare_beside ((item names amount ∷ []) ∷ (controlled names amount ∷ [])
+    ∷ (controlled (record { name = name (65 ∷ []); dimensions = [] } ∷ []) amount ∷ []) ∷ [])
+    ≡ (0 ∷ 38 ∷ 0 ∷ [])
 shared = refl
 
 -- seven in parentheses, CHAR, three for N, and two for DCL and the semicolon

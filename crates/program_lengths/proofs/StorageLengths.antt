@@ -32,7 +32,7 @@ use Rattle.code_sizes.specs.StatementSizes.{stmt_size}
 use Rattle.tree_tokens.specs.TreeTokens.{expr_tokens, qualified_tokens, reference_tokens, further_tokens, tokens_if}
 use Rattle.tree_tokens.specs.TreeTokens.{commas_before}
 use Rattle.tree_tokens.specs.TreeTokens.{list_tokens, row_tokens, placed_tokens, allocation_tokens, freeing_tokens}
-use Rattle.tree_tokens.specs.TreeTokens.{pair_tokens, edit_tokens, moved_tokens}
+use Rattle.tree_tokens.specs.TreeTokens.{pair_tokens, moved_tokens}
 use Rattle.well_formed_trees.proofs.Lists.{HoldsIf}
 use Rattle.source_sizes.specs.Short.{Short, most_words}
 use Rattle.source_sizes.proofs.Values.{short_more, OperandShort, operand_short}

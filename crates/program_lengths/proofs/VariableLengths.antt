@@ -1,10 +1,13 @@
 -- What is made and evaluated for the variables of a block takes no more words than what is declared is given.
-use Rattle.std.proofs.Common.{◌≡◌, ℕ, ◌+◌, ◌*◌, ◌≤◌, Bool, true, false, not, ◌&&◌, List, [], ◌∷◌, ◌++◌}
-use Rattle.std.proofs.Common.{Some, None, if◌then◌else◌, arith}
+use Rattle.std.proofs.Common.{◌≡◌, ℕ, suc, ◌+◌, ◌*◌, ◌≤◌, Bool, true, false, not, ◌&&◌, List, [], ◌∷◌, ◌++◌}
+use Rattle.std.proofs.Common.{Some, None, if◌then◌else◌, refl, ap, arith}
+use Rattle.std.specs.Prelude.{◌==◌, ◌||◌, ◌-◌, length, slice_get}
+use Rattle.std.proofs.lemmas.Bool.Decides.{nat_tests}
 use Rattle.std.specs.List.{flat_map}
 use Rattle.pli_language.specs.Tree as T
-use Rattle.pli_language.specs.Declarations.{dimensions_of, Held, What, Variable', Label, ProcedureName, Declaration}
-use Rattle.pli_language.specs.Declaring.{has, own_attributes, stands_alone, same_place, place_of_expr}
+use Rattle.pli_language.specs.Declarations.{Variable, dimensions_of, Held, What, Variable', Label, ProcedureName, Declaration}
+use Rattle.pli_language.specs.Declaring.{has, own_attributes, class_attributes, first_or, names_of, is_parameter}
+use Rattle.pli_language.specs.Declaring.{same_place, place_of_expr}
 use Rattle.pli_typing.specs.TypedTree as Y
 use Rattle.pli_typing.specs.Judging.{Scope, each}
 use Rattle.pli_typing.specs.Converting.{no_variable}
@@ -13,7 +16,7 @@ use Rattle.pli_typing.specs.Variables.{WrittenExtent, WrittenCheck, WrittenNothi
 use Rattle.pli_typing.specs.Variables.{if_open, open_in_bound}
 use Rattle.pli_typing.specs.Variables.{open_in_attribute, open_in, stands_before, with_extent, in_order}
 use Rattle.pli_typing.specs.Variables.{written_extents, members_first, member_then, variable_then, variables_in}
-use Rattle.pli_typing.specs.Variables.{variable_meant}
+use Rattle.pli_typing.specs.Variables.{variable_meant, class_of, head_of_block}
 use Rattle.pli_coding.specs.Frames.{has_constant_size, is_automatic}
 use Rattle.pli_coding.specs.Locating.{needs_number_word}
 use Rattle.pli_coding.specs.Procedures.{has_routine}
@@ -21,7 +24,7 @@ use Rattle.code_sizes.specs.StatementSizes.{evaluations_size, extents_size, made
 use Rattle.code_sizes.specs.StartSizes.{routine_size, block_routines_size, class_size, static_size, block_statics_size}
 use Rattle.tree_tokens.specs.TreeTokens.{expr_tokens}
 use Rattle.program_lengths.specs.DeclaredLengths.{extent_words, bound_words, bounds_words, attribute_words}
-use Rattle.program_lengths.specs.DeclaredLengths.{attributes_words}
+use Rattle.program_lengths.specs.DeclaredLengths.{attributes_words, spare_words}
 use Rattle.program_lengths.proofs.SingleLengths.{number_within}
 use Rattle.program_lengths.proofs.DeclaredSums.{what_sum, declarations_sum}
 use Rattle.program_lengths.proofs.DeclaredLengths.{variable_words}
@@ -173,50 +176,97 @@ routine_most d (x ∷ xs) = by (has_routine d.class) where
   by true = omega arith
   by false = omega arith
 
+-- what a variable of a class takes beside its extents
+abbrev class_words : Y.StorageClass → ℕ
+class_words Y.AutomaticClass = 63
+class_words Y.ParameterClass = 63
+class_words _ = 208
+
 -- none is made in its block and evaluated by a routine
 class_most : (c : Y.StorageClass) (made words extents : ℕ) → made ≤ extents + 47 → words ≤ 16
     → (if is_automatic c then made else 0)
     + ((if has_routine c then extents + 191 else 0) + (class_size c + words))
-    ≤ 208 + extents
+    ≤ class_words c + extents
 class_most Y.AutomaticClass made words extents h k = omega (arith, h, k)
 class_most Y.ParameterClass made words extents h k = omega (arith, h, k)
 class_most Y.StaticClass made words extents h k = omega (arith, h, k)
 class_most Y.BasedClass made words extents h k = omega (arith, h, k)
 class_most Y.ControlledClass made words extents h k = omega (arith, h, k)
 
-whole_most : (d : Y.DeclaredVariable) → whole_size d ≤ 208 + evaluations_size d.evaluations
+whole_most : (d : Y.DeclaredVariable) → whole_size d ≤ class_words d.class + evaluations_size d.evaluations
 whole_most d =
     let words : ℕ = if needs_number_word d then 16 else 0 in
     let class = class_most d.class (made_size d) words (evaluations_size d.evaluations) (made_most d) (number_word d) in
     let routine = routine_most d d.evaluations in
     omega (arith, class, routine)
 
+-- the attributes of level 1 say the class
+class_said : (parameters : List T.Name) (h : Held) (as' : List T.Attribute)
+    → class_words (class_of parameters h as') ≤ 208 - spare_words as'
+class_said parameters h as' = by (is_parameter parameters h) (has 9 as') (has 10 as') (has 11 as') where
+  by : (p s c b : Bool)
+      → class_words (if p then Y.ParameterClass else (if s then Y.StaticClass
+      else (if c then Y.ControlledClass else (if b then Y.BasedClass else Y.AutomaticClass))))
+      ≤ 208 - (if s || c || b then 0 else 145)
+  by true true c b = omega arith
+  by true false true b = omega arith
+  by true false false true = omega arith
+  by true false false false = omega arith
+  by false true c b = omega arith
+  by false false true b = omega arith
+  by false false false true = omega arith
+  by false false false false = omega arith
+
 -- ---- the variables of a block
+
+abbrev root_words : List Held → ℕ
+root_words [] = 208
+root_words (h ∷ hs) = 208 - spare_words (class_attributes h)
+
+root_most : (scope : Scope) (all : List Held)
+    → class_words (declared_variable scope all).value.class ≤ root_words all
+root_most scope [] = omega arith
+root_most scope (h ∷ hs) =
+    class_said (names_of (head_of_block (slice_get scope.blocks scope.block))) h (class_attributes h)
 
 abbrev given_words : List (List Held) → ℕ
 given_words [] = 0
-given_words (all ∷ vs) = (208 + helds_words all) + given_words vs
+given_words (all ∷ vs) = (root_words all + helds_words all) + given_words vs
 
 each_most : (scope : Scope) (vs : List (List Held))
     → wholes_size (each (declared_variable scope) vs).value ≤ given_words vs
 each_most scope [] = omega arith
 each_most scope (all ∷ vs) =
     let own = whole_most (declared_variable scope all).value in
+    let class = root_most scope all in
     let extents = evaluated_most scope all in
     let more = each_most scope vs in
-    omega (arith, own, extents, more)
+    omega (arith, own, class, extents, more)
+
+never : (n : ℕ) → (suc n == 0) ≡ false
+never n = grind (arith, nat_tests)
 
 -- members stand behind the variable that they belong to
 variable_given : (w : What) (hs : List Held) (vs : List (List Held))
     → given_words (variable_then w hs vs) + helds_words (member_then w hs)
     ≤ what_sum variable_words w + (given_words vs + helds_words hs)
-variable_given (Variable' h) hs vs = by (stands_alone h) (not (has 13 (own_attributes h))) where
-  by : (b c : Bool)
-      → given_words (if b && c then (h ∷ hs) ∷ vs else vs) + helds_words (if b then [] else h ∷ hs)
-      ≤ (208 + open_words h) + (given_words vs + helds_words hs)
-  by true true = omega arith
-  by true false = omega arith
-  by false c = omega arith
+variable_given (Variable' h) hs vs = by h.above refl (not (has 13 (own_attributes h))) where
+  by : (above : List Variable) → h.above ≡ above → (c : Bool)
+      → given_words (if (length above == 0) && c then (h ∷ hs) ∷ vs else vs)
+      + helds_words (if length above == 0 then [] else h ∷ hs)
+      ≤ variable_words h.variable + (given_words vs + helds_words hs)
+  by [] e true =
+      let same : spare_words (class_attributes h) ≡ spare_words (own_attributes h) =
+      ap (λ a. spare_words (first_or a h.variable).item.attributes) e in
+      omega (arith, same)
+  by [] e false = omega arith
+  by (a ∷ above) e c = member (length (a ∷ above) == 0) (never (length above))
+    where
+      member : (b : Bool) → b ≡ false
+          → given_words (if b && c then (h ∷ hs) ∷ vs else vs) + helds_words (if b then [] else h ∷ hs)
+          ≤ variable_words h.variable + (given_words vs + helds_words hs)
+      member true k = absurd (cc k)
+      member false k = omega arith
 variable_given Label hs vs = omega arith
 variable_given (ProcedureName head) hs vs = omega arith
 

@@ -1,7 +1,8 @@
 -- What declarations take beside the tokens that they are spelled with: names in parentheses share their extents, and
 -- the code evaluates these for each name.
-use Rattle.std.specs.Prelude.{ℕ, ◌+◌, ◌-◌, ◌*◌, List, [], ◌∷◌, Option, Some, if◌then◌else◌}
+use Rattle.std.specs.Prelude.{ℕ, ◌+◌, ◌-◌, ◌*◌, ◌||◌, List, [], ◌∷◌, Option, Some, if◌then◌else◌}
 use Rattle.pli_language.specs.Tree as T
+use Rattle.pli_language.specs.Declaring.{has}
 use Rattle.pli_typing.specs.Variables.{is_open}
 use Rattle.tree_tokens.specs.TreeTokens.{expr_tokens, row_tokens, dimensions_tokens, attribute_tokens}
 use Rattle.source_sizes.specs.Short.{words_for_a_token}
@@ -46,9 +47,14 @@ abbrev pub for_each : {X : Type 0} → (words : ℕ) → List X → ℕ
 for_each words [] = 0
 for_each words (x ∷ xs) = words + for_each words xs
 
+-- an AUTOMATIC variable has no routine, so that its name and a comma pay so much of its extents
+abbrev pub spare_words : List T.Attribute → ℕ
+spare_words attributes = if has 9 attributes || has 10 attributes || has 11 attributes then 0 else 145
+
 -- so much for each name, of which the tokens that they share pay a part
 abbrev pub item_beside : T.DeclareItem → ℕ
-item_beside d = for_each (shared_words d) d.names - words_for_a_token * shared_tokens d
+item_beside d =
+    for_each (shared_words d - spare_words d.attributes) d.names - words_for_a_token * shared_tokens d
 
 abbrev pub declare_beside : List T.DeclareItem → ℕ
 declare_beside [] = 0
