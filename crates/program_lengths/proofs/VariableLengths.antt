@@ -5,7 +5,8 @@ use Rattle.std.specs.Prelude.{◌==◌, ◌||◌, ◌-◌, length, slice_get}
 use Rattle.std.proofs.lemmas.Bool.Decides.{nat_tests}
 use Rattle.std.specs.List.{flat_map}
 use Rattle.pli_language.specs.Tree as T
-use Rattle.pli_language.specs.Declarations.{Variable, dimensions_of, Held, What, Variable', Label, ProcedureName, Declaration}
+use Rattle.pli_language.specs.Declarations.{Variable, dimensions_of, Held, What, Variable', Label, ProcedureName}
+use Rattle.pli_language.specs.Declarations.{Declaration}
 use Rattle.pli_language.specs.Declaring.{has, own_attributes, class_attributes, first_or, names_of, is_parameter}
 use Rattle.pli_language.specs.Declaring.{same_place, place_of_expr}
 use Rattle.pli_typing.specs.TypedTree as Y
