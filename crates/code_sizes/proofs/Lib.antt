@@ -6,5 +6,5 @@ mod StreamSizes
 mod EntrySizes
 mod StatementSizes
 mod StartSizes
-mod ProgramSizes
+pub mod ProgramSizes
 mod SizeRows

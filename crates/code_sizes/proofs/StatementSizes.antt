@@ -25,7 +25,8 @@ use Rattle.code_sizes.specs.ExpressionSizes.{number_size, bit_size, stored_size}
 use Rattle.code_sizes.specs.StoringSizes.{assignment_size}
 use Rattle.code_sizes.specs.StreamSizes.{value_size}
 use Rattle.code_sizes.specs.StatementSizes.{condition_size, counter_size, limit_size, turns_size, display_size}
-use Rattle.code_sizes.specs.StatementSizes.{variables_size, stmt_size, stmts_size, AllStatementsSized}
+use Rattle.code_sizes.specs.StatementSizes.{variables_size, unit_variables_size, stmt_size, stmts_size}
+use Rattle.code_sizes.specs.StatementSizes.{AllStatementsSized}
 use Rattle.code_sizes.proofs.PieceSizes.{both, one_of, none, number_most, load_most, store_most, plus_most}
 use Rattle.code_sizes.proofs.PieceSizes.{copied_most, fitted_most, loaded_most, frame_found_most, overflow_most}
 use Rattle.code_sizes.proofs.ExpressionSizes.{pushed_most, length_most, number_sized, text_sized, bit_sized}
@@ -315,8 +316,7 @@ begin_most e head words body n h =
     omega (arith, all)
 
 unit_variables_most : (e : Environment) (head : Y.BlockHead) (kind : Y.BlockKind)
-    → size_of (G.unit_variables (G.unit_environment head e) head kind)
-    ≤ variables_size (variables_of_block e.program head.number)
+    → size_of (G.unit_variables (G.unit_environment head e) head kind) ≤ unit_variables_size e.program head kind
 unit_variables_most e head Y.SimpleUnit = none
 unit_variables_most e head Y.ProcedureBlock =
     variables_most (G.unit_environment head e) head.line 0 (variables_of_block e.program head.number)
@@ -342,7 +342,7 @@ unit_left_most words held few =
 unit_most : (e : Environment) (head : Y.BlockHead) (words held : ℕ) (body : Code) (n : ℕ) → held ≤ 7
     → size_of body ≤ n
     → size_of (G.unit_code e head words held body)
-    ≤ variables_size (variables_of_block e.program head.number) + (6 * head.level + 18) + (n + 61)
+    ≤ unit_variables_size e.program head head.kind + (6 * head.level + 18) + (n + 61)
 unit_most e head words held body n few h =
     let left = both (G.unit_mark head head.kind) (G.unit_left words held) (unit_mark_most head head.kind)
     (unit_left_most words held few) in

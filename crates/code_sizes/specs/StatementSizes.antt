@@ -73,6 +73,14 @@ saved_size = 43
 abbrev pub block_size : Y.Program → Y.BlockHead → ℕ
 block_size program head = variables_size (variables_of_block program head.number) + frame_size head.level
 
+-- a simple unit declares nothing: the number is that of the block around it
+abbrev pub unit_variables_size : Y.Program → Y.BlockHead → Y.BlockKind → ℕ
+unit_variables_size program head Y.SimpleUnit = 0
+unit_variables_size program head _ = variables_size (variables_of_block program head.number)
+
+abbrev pub unit_size : Y.Program → Y.BlockHead → ℕ
+unit_size program head = unit_variables_size program head head.kind + frame_size head.level
+
 -- ---- statements
 
 abbrev mutual
@@ -94,7 +102,7 @@ abbrev mutual
       turns_size counter start limit step condition + stmts_size p body
   stmt_size p (Y.Begin (Y.BlockOf head body)) = block_size p head + (stmts_size p body + 16)
   stmt_size p (Y.OnSystem c line) = 9
-  stmt_size p (Y.OnUnit c (Y.BlockOf head body) line) = block_size p head + (stmts_size p body + (saved_size + 30))
+  stmt_size p (Y.OnUnit c (Y.BlockOf head body) line) = unit_size p head + (stmts_size p body + (saved_size + 30))
   stmt_size p (Y.CallProcedure call line) = call_size call + act_size
   stmt_size p (Y.Return line) = 14
   stmt_size p (Y.ReturnValue type source line) = stored_size source + 41

@@ -123,7 +123,7 @@ arguments_most w callee (p ∷ ps) (o ∷ os) q =
     let all = arguments_most rest callee ps os more in
     omega (arith, one, all, most)
 
-call_short : (w : ℕ) (blocks : List Block) (holder : ℕ) (head : T.ProcedureHead) (place : Place) (os : List Operand)
+pub call_short : (w : ℕ) (blocks : List Block) (holder : ℕ) (head : T.ProcedureHead) (place : Place) (os : List Operand)
     → AllShort w os → call_size (procedure_called blocks holder head place os).value ≤ w + 11
 call_short w blocks holder head place os h =
     let callee = callee_of blocks head place in
@@ -132,7 +132,7 @@ call_short w blocks holder head place os h =
 
 -- ---- locators that declarations name
 
-abbrev IsPlain : Designated → Type 0
+abbrev pub IsPlain : Designated → Type 0
 IsPlain d = reference_size d.reference ≤ 62
 
 plain_part : (blocks : List Block) (n : ℕ) (h : Held)
@@ -151,7 +151,7 @@ plain_in blocks n (Some (Variable' h)) =
     let d = part_designated blocks n h Y.NotLocated false Y.NoNumber in
     plain_if d (not (has 11 (class_attributes h)) && locates (locator_value d)) (plain_part blocks n h)
 
-plain_found : (blocks : List Block) (f : Found) → HoldsIf IsPlain (locator_found blocks f)
+pub plain_found : (blocks : List Block) (f : Found) → HoldsIf IsPlain (locator_found blocks f)
 plain_found blocks (F.One at) = plain_in blocks at.block (what_at blocks at)
 plain_found blocks F.None = tt
 plain_found blocks F.Ambiguous = tt
@@ -277,7 +277,7 @@ given_most : (q : T.Qualified) → 1 + given_tokens q ≤ qualified_tokens q
 given_most (T.Last name a) = omega arith
 given_most (T.Of name a q) = let h = given_most q in omega (arith, h)
 
-further_most : (es : T.Exprs) → further_tokens es ≤ 1 + exprs_tokens es
+pub further_most : (es : T.Exprs) → further_tokens es ≤ 1 + exprs_tokens es
 further_most T.NoExpr = omega arith
 further_most (T.ExprThen e es) = omega arith
 
@@ -344,7 +344,7 @@ mutual
       (both_short (104 * arguments_tokens a) (104 * given_tokens q) (listed (arguments scope a).value)
       (all_operands (qualified scope q).value) (arguments_short scope a) (qualified_short scope q))
 
-  arguments_short : (scope : Scope) (a : T.Arguments)
+  pub arguments_short : (scope : Scope) (a : T.Arguments)
       → AllShort (104 * arguments_tokens a) (listed (arguments scope a).value)
   arguments_short scope T.Absent = tt
   arguments_short scope (T.Listed es) =
@@ -352,7 +352,7 @@ mutual
       all_more (104 * further_tokens es) (104 * (2 + exprs_tokens es)) (omega (arith, h)) (expressions scope es).value
       (expressions_are_short scope es)
 
-  expressions_are_short : (scope : Scope) (es : T.Exprs)
+  pub expressions_are_short : (scope : Scope) (es : T.Exprs)
       → AllShort (104 * further_tokens es) (expressions scope es).value
   expressions_are_short scope T.NoExpr = tt
   expressions_are_short scope (T.ExprThen e es) = (

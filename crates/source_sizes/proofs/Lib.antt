@@ -1,3 +1,3 @@
-mod Values
-mod Builtins
-mod Expressions
+pub mod Values
+pub mod Builtins
+pub mod Expressions

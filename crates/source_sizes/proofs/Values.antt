@@ -169,7 +169,7 @@ number_operand_short w o h = number_short w o.place (operand_value o).value (ope
 pub text_operand_short : (w : ℕ) (o : Operand) → OperandShort w o → text_size (text_operand o).value ≤ w + 3
 text_operand_short w o h = text_short w h.0 o.place (operand_value o).value (operand_short w o h)
 
-own_bit_operand_short : (w : ℕ) (o : Operand) → OperandShort w o → bit_size (own_bit_operand o).value ≤ w
+pub own_bit_operand_short : (w : ℕ) (o : Operand) → OperandShort w o → bit_size (own_bit_operand o).value ≤ w
 own_bit_operand_short w o h = own_bit_short w h.0 o.place (operand_value o).value (operand_short w o h)
 
 pub pointer_operand_short : (w : ℕ) (o : Operand) → OperandShort w o → pointer_size (pointer_operand o).value ≤ w + 1

@@ -1,5 +1,5 @@
 mod Expressions
 mod Declarations
 mod Heads
-mod Nests
+pub mod Nests
 mod Rows

@@ -1,0 +1,11 @@
+mod SingleLengths
+mod StorageLengths
+mod StatementLengths
+mod DeclaredSums
+mod DeclaredLengths
+mod VariableLengths
+mod RoutineLengths
+mod LevelsFew
+mod ProgramLengths
+mod TableLengths
+mod LengthRows
