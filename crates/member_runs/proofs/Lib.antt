@@ -1,0 +1,4 @@
+pub mod MemberCode
+pub mod MemberMeaning
+pub mod MemberPoints
+pub mod MemberReads
