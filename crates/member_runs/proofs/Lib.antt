@@ -2,3 +2,5 @@ pub mod MemberCode
 pub mod MemberMeaning
 pub mod MemberPoints
 pub mod MemberReads
+pub mod MemberPuts
+pub mod MemberAssignments

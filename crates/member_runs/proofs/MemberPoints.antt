@@ -81,6 +81,19 @@ address_is {leaves} {member} {type} members z values at is =
     (leaf_is members z is)
     ∙ omega arith
 
+pub member_within :
+    {leaves : List Y.Leaf} {member : ℕ} {type : Y.LeafType} (members : List Y.Member) (z : ℤ)
+    (values : ℕ → List ℤ → BasicValue) → IsMember leaves member type →
+    member_place leaves member + member_size type ≤ size_of (structure_of members leaves z values)
+member_within {leaves} {member} {type} members z values is =
+    let g = structure_of members leaves z values in
+    let now' = element_now members z values is in
+    let here = address_is members z values 0 is in
+    let same = address_same g z member [] 0 now' in
+    let part' = subst (λ (l : Leaf). place_in g member [] + element_size l.kind ≤ size_of g) (leaf_is members z is)
+    (element_inside g member [] (element_allocated g z member [] now')) in
+    omega (arith, here, same, part')
+
 -- ---- what lives by a name
 
 pub record StructureAt (p : Point) (name : Name) (members : List Y.Member) (leaves : List Y.Leaf) : Type 0 where
@@ -136,16 +149,14 @@ member_told {members} {leaves} {p} {name} {member} {type} s is m held =
     let here = address_is members s.extent s.values at is in
     let whole = (named_at p.keeper held.keeps p.places p.state m (p.state.serials + 1) name g held.stored
     held.lives.falling s.lives s.plain).inside in
-    let same = address_same g s.extent member [] at now' in
-    let part' = subst (λ (l : Leaf). place_in g member [] + element_size l.kind ≤ size_of g)
-    (leaf_is members s.extent is) (element_inside g member [] (element_allocated g s.extent member [] now')) in
+    let within = member_within members s.extent s.values is in
     record {
       tells =
           subst (λ at'. Tells (kind_of [] type) (s.values member []) at' m) here
           (subst (λ (l : Leaf). Tells l.kind (s.values member []) (address_now g s.extent member [] at) m)
           (leaf_is members s.extent is) told.0);
       even = subst (λ i. i % 4 ≡ 0) here told.1;
-      inside = omega (arith, whole, part', same, here);
+      inside = omega (arith, whole, within);
     }
 
 -- ---- what service 8 answers

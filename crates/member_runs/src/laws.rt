@@ -1,8 +1,14 @@
 // Laws of the definitions: each function's contract is one law, and calling it does nothing.
 
+ghost use Rattle.member_runs.specs.MemberAssignments.{MemberAssigned};
 ghost use Rattle.member_runs.specs.Members.{MemberRead};
 
 /// A number that is a member of what a pointer variable points to leaves what it means in a register.
 pub fn member_read()
     ensures { MemberRead }
+{}
+
+/// An assignment to such a number does what it means if its expression does.
+pub fn member_assigned()
+    ensures { MemberAssigned }
 {}
