@@ -1,3 +1,4 @@
+pub mod BasePlaces
 pub mod MemberCode
 pub mod MemberMeaning
 pub mod MemberPoints

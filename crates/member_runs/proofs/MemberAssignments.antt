@@ -82,7 +82,8 @@ use Rattle.member_runs.proofs.MemberMeaning.{behind_found, part_found, part_miss
 use Rattle.member_runs.proofs.MemberPoints.{StructureAt, member_place, member_told, structure_at}
 use Rattle.member_runs.proofs.MemberPuts.{behind_put, designated_at, place_low, put_among, put_services, put_stands}
 use Rattle.member_runs.proofs.MemberPuts.{put_state}
-use Rattle.member_runs.proofs.MemberReads.{found_regs, living_found, member_ground, missing_ends}
+use Rattle.member_runs.proofs.MemberReads.{NoMore, found_regs, known_more, living_found, member_ground}
+use Rattle.member_runs.proofs.MemberReads.{missing_ends}
 
 -- ---- the code of the store
 
@@ -118,9 +119,9 @@ put_coded e x n members leaves member signature one pointer declared table own =
 
 -- no temporary waits in a word of the frame
 pub no_words :
-    (w : Surroundings) (p : Point) (name : Name) (place : ℕ) (at : Base → ℕ) (h : IsFrame _) →
-    Temporaries (member_ground w p name place at h)
-no_words w p name place at h =
+    (w : Surroundings) (p : Point) (name : Name) (place : ℕ) (at : Base → ℕ) (E : List ℕ → Type 0) (h : IsFrame _) →
+    Temporaries (member_ground w p name place at E h)
+no_words w p name place at E h =
     record {
       kept = λ t b m j x less bytes few o. absurd (omega (arith, less));
       found = λ t b m j less few o. absurd (omega (arith, less));
@@ -135,8 +136,8 @@ value_goes :
     ((b : Base) → (at b % 4 ≡ 0) × (at b + 4 ≤ memory_size)) →
     Linked k.call.surroundings.links k.call.code i value_stored →
     ((b : Base) →
-    At b i (Known (member_ground k.call.surroundings p name (member_place leaves member) at h) (services_of p) numbers
-    (λ j. 0) (λ b'. (10, word z) ∷ found_regs at b') b) (f b)) →
+    At b i (Known (member_ground k.call.surroundings p name (member_place leaves member) at NoMore h) (services_of p)
+    numbers (λ j. 0) (λ b'. (10, word z) ∷ found_regs at b') b) (f b)) →
     Reach k.call.code c f (services_of p) (c + size_of value_stored) (services_of p)
     (λ b y. At b (i + size_of value_stored)
     (Known (point_ground k.call.surroundings (behind_put s member (BasicNumber z)) h) (services_of p) numbers (λ j. 0)
@@ -218,10 +219,11 @@ put_reaches k' x n members leaves member is one {numbers} {p} {index} none regis
     (Known (point_ground w p h) (services_of p) (held_after numbers 0 (word z)) (λ i. 0) nothing b) y)) none
     (λ l'. saved_reach k' 0 0 h registers c f (word z) small' l' (λ b. known_word k h (there b)))
     (front_of saves (finds ++ (back ++ value_stored)) l) in
-    let found = living_found {numbers = held_after numbers 0 (word z)} is one o' a s h (c + size_of saves) (reached r1)
-    (omega arith) (front_of finds (back ++ value_stored) l1) (λ b. in_known h o.image.parts (reached_holds r1 b)) in
+    let found = living_found {numbers = held_after numbers 0 (word z)} NoMore is one o' a s h (c + size_of saves) (reached r1)
+    (omega arith) (front_of finds (back ++ value_stored) l1)
+    (known_more k h (reached r1) (λ b. in_known h o.image.parts (reached_holds r1 b))) in
     let r2 = found.reach in
-    let r3 = fetch_piece (no_words w p a.points.name (member_place leaves member) found.at h)
+    let r3 = fetch_piece (no_words w p a.points.name (member_place leaves member) found.at NoMore h)
     (c + size_of saves + size_of finds) (reached r2) a0
     none_taken (word z) (λ left. absurd (cc left)) small' (held_is_given numbers 0 (word z))
     (record { reserved_stay = λ y u. refl; known_stay = λ b y u t. t; set = λ y u. refl })

@@ -54,10 +54,10 @@ use Rattle.run_steps.specs.Unlimited as U
 use Rattle.image_runs.specs.Runs.{Whole}
 use Rattle.block_runs.specs.Machines.{AreIn}
 use Rattle.block_runs.proofs.BlockEntries.{small_is, word_fits, word_is}
-use Rattle.block_runs.proofs.Places.{IsFrame, ground_at}
+use Rattle.block_runs.proofs.Places.{IsFrame, ground_at, word_in}
 use Rattle.block_runs.proofs.PointGrounds.{StandsIn, call_is, known_in, point_frame, point_ground}
 use Rattle.program_runs.specs.Statements.{Block, IsAmong}
-use Rattle.program_runs.proofs.Variables.{own_code, own_comes}
+use Rattle.program_runs.proofs.Variables.{own_code}
 use Rattle.expression_runs.specs.Laws as L
 use Rattle.expression_runs.specs.Values.{Setting, behind, in_registers, number_aims}
 use Rattle.expression_runs.specs.Variables.{Spot}
@@ -70,6 +70,7 @@ use Rattle.area_runs.proofs.BasedReads.{laid_out, there_at}
 use Rattle.locator_runs.specs.Pointers.{IsPointer}
 use Rattle.locator_runs.proofs.PointerPoints.{PointerAt, own_base, pointer_in, pointer_place}
 use Rattle.member_runs.specs.Members.{IsMember, IsStructure, member_of, member_part, structure_shape}
+use Rattle.member_runs.proofs.BasePlaces.{own_at, own_word}
 use Rattle.member_runs.proofs.MemberCode.{asking_code, found_code, read_coded}
 use Rattle.member_runs.proofs.MemberMeaning.{behind_found, designated_member, part_found, part_missing, seen_is}
 use Rattle.member_runs.proofs.MemberMeaning.{through_is}
@@ -104,21 +105,54 @@ resolve_called code y v x0 x1 x2 e r =
     ∙ ap (λ u. resolve_served (call_at code v m) x0 x1 u (x 13)) r.3
     ∙ ap (λ u. resolve_served (call_at code v m) x0 x1 x2 u) r.4
 
+-- memory, and what else is known of it
+abbrev pub more_ground :
+    (w : Surroundings) (p : Point) (E : List ℕ → Type 0) → IsFrame (frame_under w.parts p.control.layers) → Ground
+more_ground w p E h =
+    ground_at (frame_under w.parts p.control.layers) (upper_top w.parts p.control.layers) h
+    (λ b m. StandsIn w p b m × E m)
+
+-- nothing else
+abbrev pub NoMore : List ℕ → Type 0
+NoMore m = Unit {0}
+
+pub known_more :
+    (k : Block) {numbers : ℕ → ℕ} {p : Point} {i : ℕ} (h : frame_of k p) (f : Family) →
+    AreIn k.call.surroundings p numbers i f → (b : Base) →
+    At b i (Known (more_ground k.call.surroundings p NoMore h) (services_of p) numbers (λ j. 0) nothing b) (f b)
+known_more k h f there b =
+    let s = known_in {t = λ j. 0} {rs = nothing} h (there b) tt in
+    record {
+      pc = s.pc;
+      holds = record {
+        body = record {
+          services = s.holds.body.services;
+          registers = s.holds.body.registers;
+          bytes = s.holds.body.bytes;
+          memory = (s.holds.body.memory, tt);
+        };
+        regs = tt;
+      };
+    }
+
 -- the name's place, the signature's number, the member's, and the rest
 asking_comes :
-    {k : Block} {x : Spot} {numbers : ℕ → ℕ} {p : Point} {i : ℕ} (is : IsPointer k x) (signature member : ℕ)
-    (o : IsAmong k numbers p) (h : frame_of k p) (c : ℕ) (f : Family) → (signature < 2 ^ 31) × (member < 2 ^ 31) →
+    {k : Block} {x : Spot} {numbers : ℕ → ℕ} {p : Point} {i : ℕ} (E : List ℕ → Type 0) (is : IsPointer k x)
+    (signature member : ℕ) (o : IsAmong k numbers p) (h : frame_of k p) (c : ℕ) (f : Family) → (signature < 2 ^ 31) × (member < 2 ^ 31) →
     Linked k.call.surroundings.links k.call.code i
     (own_code a0 (name_at_place k.environment x) ++ asking_code signature member) →
-    AreIn k.call.surroundings p numbers i f →
+    ((b : Base) → At b i (Known (more_ground k.call.surroundings p E h) (services_of p) numbers (λ j. 0) nothing b)
+    (f b)) →
     Reach k.call.code c f (services_of p)
     (c + size_of (own_code a0 (name_at_place k.environment x) ++ asking_code signature member)) (services_of p)
     (λ b y. At b (i + size_of (own_code a0 (name_at_place k.environment x) ++ asking_code signature member))
-    (Known (point_ground k.call.surroundings p h) (services_of p) numbers (λ j. 0)
+    (Known (more_ground k.call.surroundings p E h) (services_of p) numbers (λ j. 0)
     (asking_regs is signature member) b) y)
-asking_comes {k} {x} {numbers} {p} is signature member o h c f few l there =
+asking_comes {k} {x} {numbers} {p} E is signature member o h c f few l there =
     let w = k.call.surroundings in
     let v = services_of p in
+    let g = more_ground w p E h in
+    let at = frame_under w.parts p.control.layers in
     let place = name_at_place k.environment x in
     let name = own_code a0 place in
     let num = number a1 signature in
@@ -131,11 +165,13 @@ asking_comes {k} {x} {numbers} {p} is signature member o h c f few l there =
     let n2 = size_append leaf three in
     let l1 = back_of name (num ++ (leaf ++ three)) l in
     let l2 = back_of num (leaf ++ three) l1 in
-    let r1 = own_comes {rs = nothing} h c f a0 place (omega (arith, base, inside)) (λ y u. refl)
+    let r1 = own_at {g = g} {rs = nothing} c f a0 place (word_in at 36 h refl (omega arith))
+    (λ b m u. own_word w.parts b.at m p.state.activations p.control.layers u.0.frames)
+    (omega (arith, base, inside)) (λ y u. refl)
     (record { reserved_stay = λ y u. refl; known_stay = λ b y u q. q; set = λ y u. refl })
     (record { reserved_stay = λ y u. refl; known_stay = λ b y u q. q; set = λ y u. refl })
     (record { reserved_stay = λ y u. refl; known_stay = λ b y u q. q; set = λ y u. refl })
-    (front_of name (num ++ (leaf ++ three)) l) (λ b. known_in h (there b) tt) in
+    (front_of name (num ++ (leaf ++ three)) l) there in
     let r2 = constant_piece (c + size_of name) (reached r1) a1 (pos signature) (word_fits signature few.0)
     (record { reserved_stay = λ y u. refl; known_stay = λ b y u q. q; set = λ y u. refl })
     (front_of num (leaf ++ three) l1) (reached_holds r1) in
@@ -143,7 +179,7 @@ asking_comes {k} {x} {numbers} {p} is signature member o h c f few l there =
     (record { reserved_stay = λ y u. refl; known_stay = λ b y u q. q; set = λ y u. refl })
     (front_of leaf three l2) (reached_holds r2) in
     let r4 = straight (c + size_of name + size_of num + size_of leaf) (reached r3) v v
-    (λ b y. Known (point_ground w p h) v numbers (λ j. 0) (asking_regs is signature member) b y)
+    (λ b y. Known g v numbers (λ j. 0) (asking_regs is signature member) b y)
     (back_of leaf three l2) (omega arith)
     (λ b. (reached_holds r3 b).pc)
     (λ b. let o' = (reached_holds r3 b).holds in record {
@@ -176,25 +212,25 @@ asking_comes {k} {x} {numbers} {p} is signature member o h c f few l there =
 
 -- memory, and where a member stands in it
 abbrev pub member_ground :
-    (w : Surroundings) (p : Point) (name : Name) (place : ℕ) (at : Base → ℕ) →
+    (w : Surroundings) (p : Point) (name : Name) (place : ℕ) (at : Base → ℕ) (E : List ℕ → Type 0) →
     IsFrame (frame_under w.parts p.control.layers) → Ground
-member_ground w p name place at h =
+member_ground w p name place at E h =
     ground_at (frame_under w.parts p.control.layers) (upper_top w.parts p.control.layers) h
-    (λ b m. StandsIn w p b m × (place_now (now p m) name + place ≡ at b))
+    (λ b m. StandsIn w p b m × (place_now (now p m) name + place ≡ at b) × E m)
 
 abbrev pub found_regs : (at : Base → ℕ) → Base → List (ℕ × ℕ)
 found_regs at b = (28, b.at + at b) ∷ []
 
 -- what is found, for each base
-pub record IsFound (k : Block) (p : Point) (numbers : ℕ → ℕ) (h : frame_of k p) (name : Name) (place size c i : ℕ)
-    (f : Family) (ends : ℕ) : Type 0 where
+pub record IsFound (k : Block) (p : Point) (numbers : ℕ → ℕ) (h : frame_of k p) (name : Name)
+    (E : List ℕ → Type 0) (place size c i : ℕ) (f : Family) (ends : ℕ) : Type 0 where
   pub at : Base → ℕ
   pub even : (b : Base) → at b % 4 ≡ 0
   pub inside : (b : Base) → at b + size ≤ memory_size
   pub reach :
       Reach k.call.code c f (services_of p) (c + ends) (services_of p)
       (λ b y. At b (i + ends)
-      (Known (member_ground k.call.surroundings p name place at h) (services_of p) numbers (λ j. 0) (found_regs at) b)
+      (Known (member_ground k.call.surroundings p name place at E h) (services_of p) numbers (λ j. 0) (found_regs at) b)
       y)
 
 found_at : (b : Base) (x n : ℕ) → x ≡ n → n + 4 ≤ memory_size → sum (sum x (word (pos 0))) b.at ≡ b.at + n
@@ -203,14 +239,15 @@ found_at b x n e inside = let v = b.valid.1 in omega (arith, e, inside, v)
 -- the service, and the test of its status
 pub living_found :
     {k : Block} {x n : Spot} {members : List Y.Member} {leaves : List Y.Leaf} {member : ℕ} {type : Y.LeafType}
-    {numbers : ℕ → ℕ} {p : Point} {i : ℕ} (is : IsStructure k x n members leaves) (one : IsMember leaves member type)
+    {numbers : ℕ → ℕ} {p : Point} {i : ℕ} (E : List ℕ → Type 0) (is : IsStructure k x n members leaves) (one : IsMember leaves member type)
     (o : IsAmong k numbers p) (a : PointerAt k x is.pointer p) (s : StructureAt p a.points.name members leaves)
     (h : frame_of k p) (c : ℕ) (f : Family) → 4 ≤ member_size type →
     Linked k.call.surroundings.links k.call.code i (found_code (name_at_place k.environment x) is.signature member) →
-    AreIn k.call.surroundings p numbers i f →
-    IsFound k p numbers h a.points.name (member_place leaves member) (member_size type) c i f
+    ((b : Base) → At b i (Known (more_ground k.call.surroundings p E h) (services_of p) numbers (λ j. 0) nothing b)
+    (f b)) →
+    IsFound k p numbers h a.points.name E (member_place leaves member) (member_size type) c i f
     (size_of (found_code (name_at_place k.environment x) is.signature member))
-living_found {k} {x} {n} {members} {leaves} {member} {type} {numbers} {p} {i} is one o a s h c f wide l there =
+living_found {k} {x} {n} {members} {leaves} {member} {type} {numbers} {p} {i} E is one o a s h c f wide l there =
     let w = k.call.surroundings in
     let code = k.call.code in
     let v = services_of p in
@@ -227,11 +264,11 @@ living_found {k} {x} {n} {members} {leaves} {member} {type} {numbers} {p} {i} is
     let l' = subst (Linked w.links code i) (sym (append_assoc front asks (Plain I.Ecall ∷ last))) l in
     let l1 = back_of (front ++ asks) (Plain I.Ecall ∷ last) l' in
     let l2 = rest_of (Plain I.Ecall) last l1 in
-    let r1 = asking_comes is.pointer is.signature member o h c f (is.number, one.few)
+    let r1 = asking_comes E is.pointer is.signature member o h c f (is.number, one.few)
     (front_of (front ++ asks) (Plain I.Ecall ∷ last) l') there in
     let g = reached r1 in
     let at : Base → ℕ = λ b. place_now (now p (g b).machine.memory) name + place in
-    let g' = member_ground w p name place at h in
+    let g' = member_ground w p name place at E h in
     let layout = laid_out o (omega (arith, small')) in
     let answer : Base → Answer = λ b. Done v (g b).machine.memory (at b) 0 in
     let calling : Calling w.links code (i + size_of (front ++ asks)) g answer = record {
@@ -250,11 +287,11 @@ living_found {k} {x} {n} {members} {leaves} {member} {type} {numbers} {p} {i} is
           )
           ∙ ap (λ call'. resolve_served call' (pointer_place is.pointer) is.signature member 0)
           (call_is w code p m o.image)
-          ∙ resolved_answer is one o a s m o'.body.memory.storage layout;
+          ∙ resolved_answer is one o a s m o'.body.memory.0.storage layout;
     } in
     let facts : (b : Base) → (at b % 4 ≡ 0) × (at b + member_size type ≤ memory_size) = λ b.
     let o' = (reached_holds r1 b).holds.body in
-    let t = member_told s one (g b).machine.memory o'.memory.storage in
+    let t = member_told s one (g b).machine.memory o'.memory.0.storage in
     let bytes = o'.bytes in
     let inside = t.inside in
     (t.even, omega (arith, bytes, inside)) in
@@ -265,7 +302,7 @@ living_found {k} {x} {n} {members} {leaves} {member} {type} {numbers} {p} {i} is
         services = refl;
         registers = o'.body.registers;
         bytes = o'.body.bytes;
-        memory = (o'.body.memory, refl);
+        memory = (o'.body.memory.0, refl, o'.body.memory.1);
       };
       regs = (refl, (refl, tt));
     }) in
@@ -333,8 +370,8 @@ missing_ends {k = k'} {x} {n} {members} {leaves} {numbers} {p} {i} closed is mem
     let l' = subst (Linked w.links code i) (sym (append_assoc front asks (Plain I.Ecall ∷ last))) l in
     let l1 = back_of (front ++ asks) (Plain I.Ecall ∷ last) l' in
     let l2 = rest_of (Plain I.Ecall) last l1 in
-    let r1 = asking_comes is.pointer is.signature member o h c f (is.number, few)
-    (front_of (front ++ asks) (Plain I.Ecall ∷ last) l') there in
+    let r1 = asking_comes NoMore is.pointer is.signature member o h c f (is.number, few)
+    (front_of (front ++ asks) (Plain I.Ecall ∷ last) l') (known_more k h f there) in
     let g = reached r1 in
     let layout = laid_out o (omega (arith, small')) in
     let answer : Base → Answer = λ b. Done v (g b).machine.memory (pointer_place is.pointer) 101 in
@@ -354,7 +391,7 @@ missing_ends {k = k'} {x} {n} {members} {leaves} {numbers} {p} {i} closed is mem
           )
           ∙ ap (λ call'. resolve_served call' (pointer_place is.pointer) is.signature member 0)
           (call_is w code p m o.image)
-          ∙ missing_answer is member o a m o'.body.memory.storage layout none;
+          ∙ missing_answer is member o a m o'.body.memory.0.storage layout none;
     } in
     let r2 = call_done (c + size_of (front ++ asks)) g v v (λ b. (g b).machine.memory)
     (λ b. pointer_place is.pointer) (λ b. 101)
@@ -364,7 +401,7 @@ missing_ends {k = k'} {x} {n} {members} {leaves} {numbers} {p} {i} closed is mem
         services = refl;
         registers = o'.body.registers;
         bytes = o'.body.bytes;
-        memory = o'.body.memory;
+        memory = o'.body.memory.0;
       };
       regs = (refl, tt);
     }) in
@@ -401,8 +438,8 @@ value_comes :
     ((b : Base) → (at b % 4 ≡ 0) × (at b + 4 ≤ memory_size)) →
     Linked k.call.surroundings.links k.call.code i value_loaded →
     ((b : Base) →
-    At b i (Known (member_ground k.call.surroundings p name (member_place leaves member) at h) (services_of p) numbers
-    (λ j. 0) (found_regs at) b) (f b)) →
+    At b i (Known (member_ground k.call.surroundings p name (member_place leaves member) at NoMore h) (services_of p)
+    numbers (λ j. 0) (found_regs at) b) (f b)) →
     Reach k.call.code c f (services_of p) (c + size_of value_loaded) (services_of p)
     (λ b y. At b (i + size_of value_loaded) (Known (point_ground k.call.surroundings p h) (services_of p) numbers
     (λ j. 0) (valued (word z)) b) y)
@@ -502,7 +539,8 @@ read_by k x n members leaves member is one ends p numbers taken c index f o line
     (shapes_remain o.later.remains is.signature (structure_shape members leaves) is.numbered) some in
     let first = number_of (s.values member []) (member_told s one memory stored).tells.fits in
     let z = first.0 in
-    let found = living_found {numbers = numbers} is one o a s h c f (omega arith) (front_of finds value_loaded l0) there in
+    let found = living_found {numbers = numbers} NoMore is one o a s h c f (omega arith)
+    (front_of finds value_loaded l0) (known_more k.block h f there) in
     let r = value_comes k.block s one z first.1 h found.at (c + size_of finds) (reached found.reach)
     (λ b. (found.even b, found.inside b)) (back_of finds value_loaded l0) (reached_holds found.reach) in
     let kind = seen_is members a.points.name s.extent s.values one in
