@@ -5,3 +5,6 @@ pub mod MemberPoints
 pub mod MemberReads
 pub mod MemberPuts
 pub mod MemberAssignments
+pub mod NameWords
+pub mod Follows
+pub mod FollowStatements

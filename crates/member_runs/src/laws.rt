@@ -2,6 +2,7 @@
 
 ghost use Rattle.member_runs.specs.MemberAssignments.{MemberAssigned};
 ghost use Rattle.member_runs.specs.Members.{MemberRead};
+ghost use Rattle.member_runs.specs.MemberPointers.{MemberFollowed};
 
 /// A number that is a member of what a pointer variable points to leaves what it means in a register.
 pub fn member_read()
@@ -11,4 +12,9 @@ pub fn member_read()
 /// An assignment to such a number does what it means if its expression does.
 pub fn member_assigned()
     ensures { MemberAssigned }
+{}
+
+/// A POINTER variable that is assigned what a member holds holds that, at each point of the block.
+pub fn member_followed()
+    ensures { MemberFollowed }
 {}
