@@ -8,3 +8,4 @@ pub mod MemberAssignments
 pub mod NameWords
 pub mod Follows
 pub mod FollowStatements
+pub mod Waiting

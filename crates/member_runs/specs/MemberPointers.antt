@@ -40,3 +40,35 @@ MemberFollowed =
     (k : Block) (labels : List Label) (x p n : Spot) (members : List Y.Member) (leaves : List Y.Leaf)
     (member line index left' most : ℕ) → IsFollowing k labels x p n members leaves member line index most →
     Does k labels (following x p n member line) index left'
+
+-- ---- a member that is linked to what a variable points to
+
+abbrev pub linking : (pointer based : Spot) → (member : ℕ) → (source : Spot) → (line : ℕ) → Y.Stmt
+linking p n member y line = Y.Assign (member_of p n member) (Y.StoredPointer (Y.PointerIn (whole y))) line
+
+-- where it stands, and that one act pays for it. The name waits in four words of the frame, in which nothing else does,
+-- while the member is found; where what is pointed to doesn't live ERROR ends the run.
+pub record IsLinking (k : Block) (labels : List Label) (p n y : Spot) (members : List Y.Member) (leaves : List Y.Leaf)
+    (member line index most : ℕ) : Type 0
+  where
+    pub act : HasAct k line
+    pub structure : IsStructure k p n members leaves
+    pub own : IsMember leaves member Y.PointerLeaf
+    pub source : IsPointer k y
+    pub ends : Ends (setting_of k labels line most)
+    pub layer : Layer
+    pub others : List Layer
+    pub layers : k.first.control.layers ≡ layer ∷ others
+    pub words : 4 ≤ layer.words
+    pub waits : (i : ℕ) → layer.waits i ≡ None
+    pub statement :
+        Linked k.call.surroundings.links k.call.code index
+        (stmt_code k.environment none_taken (linking p n member y line))
+    pub paid : size_in k (linking p n member y line) + most ≤ cost k.call.code
+
+-- it does what it means, also where both variables are one
+abbrev pub MemberLinked : Type 0
+MemberLinked =
+    (k : Block) (labels : List Label) (p n y : Spot) (members : List Y.Member) (leaves : List Y.Leaf)
+    (member line index left' most : ℕ) → IsLinking k labels p n y members leaves member line index most →
+    Does k labels (linking p n member y line) index left'
