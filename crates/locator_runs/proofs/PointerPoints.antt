@@ -212,7 +212,7 @@ pointers_told k x is p numbers m o stored =
 
 -- ---- the point behind
 
-name_length : (a : Name) → length (name_bytes a) ≡ 16
+pub name_length : (a : Name) → length (name_bytes a) ≡ 16
 name_length NullName = refl
 name_length (VariableName s) = refl
 name_length (BasedName s o) = refl

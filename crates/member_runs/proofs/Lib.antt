@@ -9,3 +9,5 @@ pub mod NameWords
 pub mod Follows
 pub mod FollowStatements
 pub mod Waiting
+pub mod Links
+pub mod LinkStatements

@@ -2,7 +2,7 @@
 
 ghost use Rattle.member_runs.specs.MemberAssignments.{MemberAssigned};
 ghost use Rattle.member_runs.specs.Members.{MemberRead};
-ghost use Rattle.member_runs.specs.MemberPointers.{MemberFollowed};
+ghost use Rattle.member_runs.specs.MemberPointers.{MemberFollowed, MemberLinked};
 
 /// A number that is a member of what a pointer variable points to leaves what it means in a register.
 pub fn member_read()
@@ -17,4 +17,9 @@ pub fn member_assigned()
 /// A POINTER variable that is assigned what a member holds holds that, at each point of the block.
 pub fn member_followed()
     ensures { MemberFollowed }
+{}
+
+/// A member that is assigned what a POINTER variable holds does what it means.
+pub fn member_linked()
+    ensures { MemberLinked }
 {}
