@@ -11,3 +11,5 @@ pub mod FollowStatements
 pub mod Waiting
 pub mod Links
 pub mod LinkStatements
+pub mod NewAreas
+pub mod NewPoints

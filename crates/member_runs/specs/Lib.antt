@@ -1,3 +1,4 @@
 pub mod Members
 pub mod MemberAssignments
 pub mod MemberPointers
+pub mod Allocations
