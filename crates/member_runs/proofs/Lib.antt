@@ -13,3 +13,7 @@ pub mod Links
 pub mod LinkStatements
 pub mod NewAreas
 pub mod NewPoints
+pub mod NewMeaning
+pub mod NewCode
+pub mod NewRuns
+pub mod NewStatements

@@ -1,5 +1,6 @@
 // Laws of the definitions: each function's contract is one law, and calling it does nothing.
 
+ghost use Rattle.member_runs.specs.Allocations.{StructureAllocated};
 ghost use Rattle.member_runs.specs.MemberAssignments.{MemberAssigned};
 ghost use Rattle.member_runs.specs.Members.{MemberRead};
 ghost use Rattle.member_runs.specs.MemberPointers.{MemberFollowed, MemberLinked};
@@ -22,4 +23,9 @@ pub fn member_followed()
 /// A member that is assigned what a POINTER variable holds does what it means.
 pub fn member_linked()
     ensures { MemberLinked }
+{}
+
+/// ALLOCATE of a structure in an area, which sets the pointer variable, does what it means.
+pub fn structure_allocated()
+    ensures { StructureAllocated }
 {}
