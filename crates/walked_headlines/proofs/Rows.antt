@@ -107,7 +107,9 @@ walk_whole input acts =
     }
 
 all_differ : AllDiffer (map template_of (table_of walk_program))
-all_differ = table_differs (table_of walk_program) (table_once walk_program) _
+all_differ =
+    table_differs (table_of walk_program) (table_once walk_program)
+    (record { headed = refl; leaved = (record { sized = refl; few = omega arith; bounded = tt; placed = refl }, tt) }, (tt, tt), (record { headed = refl; leaved = (record { sized = refl; few = omega arith; bounded = tt; placed = refl }, tt) }, (tt, tt), (record { headed = refl; leaved = (record { sized = refl; few = omega arith; bounded = tt; placed = refl }, (record { sized = refl; few = omega arith; bounded = tt; placed = refl }, tt)) }, (tt, (tt, tt)), (record { headed = refl; leaved = (record { sized = refl; few = omega arith; bounded = tt; placed = refl }, tt) }, (tt, tt), tt))))
 
 -- ---- its variables
 

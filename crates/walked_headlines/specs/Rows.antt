@@ -198,19 +198,19 @@ walk_program =
           record { block = Y.BlockOf (row_head 0 0 1) walk_body; parameters = []; result = None } ∷ [];
     }
 
--- ---- its variables: the area's data take 272 bytes behind its name
+-- ---- its variables: the area's data take 288 bytes behind its name
 
 abbrev pub area_made : Declared
 area_made = record { index = 0; declared = area_declared; number = 0; place = 144 }
 
 abbrev pub pointer_made : Declared
-pointer_made = record { index = 1; declared = pointer_declared; number = 1; place = 432 }
+pointer_made = record { index = 1; declared = pointer_declared; number = 1; place = 448 }
 
 abbrev pub head_made : Declared
-head_made = record { index = 3; declared = pointer_declared; number = 1; place = 464 }
+head_made = record { index = 3; declared = pointer_declared; number = 1; place = 480 }
 
 abbrev pub number_made : Declared
-number_made = record { index = 4; declared = number_declared []; number = 3; place = 496 }
+number_made = record { index = 4; declared = number_declared []; number = 3; place = 512 }
 
 -- ---- its image
 
