@@ -1,6 +1,7 @@
--- Pieces of code whatever stands in memory besides: a place of the running frame, and loads and stores at an address that
+-- Pieces of code whatever stands in memory besides: a place of the running frame, and loads and stores at an address
+-- that
 -- is a function of the base.
-use Rattle.std.proofs.Common.{◌≡◌, ℕ, ◌+◌, ◌*◌, ◌%◌, ◌^◌, ◌<◌, ◌≤◌, List, [], ◌∷◌, length, sym, ap, ◌∙◌, subst, arith}
+use Rattle.std.proofs.Common.{◌≡◌, ℕ, ◌+◌, ◌*◌, ◌%◌, ◌^◌, ◌<◌, ◌≤◌, List, [], ◌∷◌, length, sym, ◌∙◌, subst, arith}
 use Rattle.std.proofs.lemmas.Int.{ints}
 use Rattle.std.specs.Prelude.{ℤ, pos}
 use Rattle.rv_meaning.specs.declared.instr.ImmediateOp.TheVariants as Imm

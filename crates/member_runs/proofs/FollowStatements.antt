@@ -1,9 +1,9 @@
 -- The statement that assigns a POINTER variable what a member holds does what it means.
-use Rattle.std.proofs.Common.{◌≡◌, ℕ, ◌+◌, ◌<◌, ◌≤◌, List, [], ◌++◌, Option, None, Some, refl, sym, ap, subst, arith}
+use Rattle.std.proofs.Common.{◌≡◌, ℕ, ◌+◌, ◌<◌, ◌≤◌, List, Option, None, Some, refl, sym, ap, subst, arith}
 use Rattle.pli_typing.specs.TypedTree as Y
 use Rattle.pli_meaning.specs.BasicValues.{BasicPointer, BasicValue, Name}
 use Rattle.pli_meaning.specs.Contents.{Generation, name_in}
-use Rattle.pli_meaning.specs.Control.{Label, Meaning, act, flow_on, give, ◌>>=◌, ◌>>◌}
+use Rattle.pli_meaning.specs.Control.{Label, Meaning, act, give, ◌>>=◌, ◌>>◌}
 use Rattle.pli_meaning.specs.Evaluating as V
 use Rattle.pli_meaning.specs.Executing as M
 use Rattle.pli_meaning.specs.Raising as R
@@ -12,7 +12,6 @@ use Rattle.pli_meaning.specs.StorageState as Q
 use Rattle.pli_meaning.specs.World.{counted}
 use Rattle.pli_coding.specs.Allocating.{act_code}
 use Rattle.pli_coding.specs.Assembly.{size_of}
-use Rattle.pli_coding.specs.Environments.{none_taken}
 use Rattle.activation_relation.specs.Layers.{Point, services_of}
 use Rattle.activation_relation.proofs.Remaining.{shapes_remain}
 use Rattle.run_steps.specs.Items.{Linked}
@@ -33,7 +32,7 @@ use Rattle.area_runs.proofs.BasedCode.{name_at_place}
 use Rattle.locator_runs.proofs.PointerMeaning.{putting}
 use Rattle.locator_runs.proofs.PointerPoints.{PointerAt, pointed, pointed_among, pointer_in}
 use Rattle.member_runs.specs.MemberPointers.{IsFollowing, following}
-use Rattle.member_runs.specs.Members.{member_of, member_part, structure_shape}
+use Rattle.member_runs.specs.Members.{member_of, structure_shape}
 use Rattle.member_runs.proofs.Follows.{follow_code, follow_coded, follow_put, follow_reaches, taken_code}
 use Rattle.member_runs.proofs.MemberCode.{found_code}
 use Rattle.member_runs.proofs.MemberMeaning.{behind_found, part_missing, through_is}

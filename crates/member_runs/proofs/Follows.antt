@@ -1,11 +1,9 @@
 -- A POINTER variable of the running frame that is assigned what a member holds: the code of it, and what it means.
-use Rattle.std.proofs.Common.{◌≡◌, ◌⊎◌, ℕ, suc, ◌+◌, ◌*◌, ◌%◌, ◌^◌, ◌<◌, ◌≤◌, List, [], ◌∷◌, ◌++◌, length, None, Some}
+use Rattle.std.proofs.Common.{◌≡◌, ◌⊎◌, ℕ, suc, ◌+◌, ◌*◌, ◌%◌, ◌<◌, ◌≤◌, List, [], ◌++◌, length, Some}
 use Rattle.std.proofs.Common.{true, refl, sym, ap, ◌∙◌, subst, arith}
-use Rattle.std.proofs.lemmas.Int.{ints}
 use Rattle.std.specs.Prelude.{pos, ◌==◌}
 use Rattle.rv_meaning.specs.Machine.{memory_size}
 use Rattle.rv_meaning.specs.Memory.{load, store}
-use Rattle.rv_meaning.specs.Words.{sum, word}
 use Rattle.pli_typing.specs.Signatures.{LeafKind, Pointer}
 use Rattle.pli_typing.specs.TypedTree as Y
 use Rattle.pli_meaning.specs.BasicValues.{BasicPointer, Name}
@@ -14,7 +12,6 @@ use Rattle.pli_meaning.specs.Control.{Meaning, Normal, flow_on, give, ◌>>=◌}
 use Rattle.pli_meaning.specs.DeclaredShapes.{declared_variable}
 use Rattle.pli_meaning.specs.Evaluating as V
 use Rattle.pli_meaning.specs.Executing as M
-use Rattle.pli_meaning.specs.Placing as P
 use Rattle.pli_meaning.specs.Raising.{Around}
 use Rattle.pli_coding.specs.Allocating.{act_code}
 use Rattle.pli_coding.specs.Assembly.{Code, size_of}
@@ -34,7 +31,7 @@ use Rattle.activation_relation.specs.Points.{Surroundings}
 use Rattle.run_steps.specs.Bodies.{Ground, Known}
 use Rattle.run_steps.proofs.Bodies.{store_piece}
 use Rattle.run_steps.specs.Engine.{Base}
-use Rattle.run_steps.specs.Items.{At, Linked}
+use Rattle.run_steps.specs.Items.{Linked}
 use Rattle.run_steps.proofs.Jumps.{back_of, front_of}
 use Rattle.run_steps.proofs.Linking.{size_append}
 use Rattle.run_steps.proofs.Numbers.{above_small, above_sum}
@@ -47,7 +44,6 @@ use Rattle.block_runs.proofs.Places.{IsFrame, ground_at}
 use Rattle.block_runs.proofs.PointGrounds.{StandsIn, in_known, point_frame}
 use Rattle.program_runs.specs.Statements.{Block, IsAmong}
 use Rattle.expression_runs.specs.Variables.{Spot, variable_of, whole}
-use Rattle.expression_runs.proofs.Words.{frame_of}
 use Rattle.area_runs.specs.Based.{based_of, pointer_declared}
 use Rattle.area_runs.proofs.AllocationMeaning.{pointed_state}
 use Rattle.area_runs.proofs.BasedCode.{name_at_place}
@@ -61,12 +57,12 @@ use Rattle.locator_runs.proofs.PointerPoints.{PointerAt, pointed, pointed_servic
 use Rattle.locator_runs.proofs.PointerPoints.{pointer_place}
 use Rattle.locator_runs.proofs.PointerWrites.{place_in}
 use Rattle.member_runs.specs.MemberPointers.{following}
-use Rattle.member_runs.specs.Members.{IsMember, IsStructure, member_of, member_part, structure_declared, structure_shape}
+use Rattle.member_runs.specs.Members.{IsMember, IsStructure, member_of, structure_declared}
 use Rattle.member_runs.proofs.BasePlaces.{WordFrom, load_at}
 use Rattle.member_runs.proofs.MemberCode.{found_code, found_coded}
-use Rattle.member_runs.proofs.MemberMeaning.{designated_member, part_found, seen_is, through_is}
+use Rattle.member_runs.proofs.MemberMeaning.{part_found, seen_is, through_is}
 use Rattle.member_runs.proofs.MemberPoints.{StructureAt, member_place}
-use Rattle.member_runs.proofs.MemberReads.{NoMore, found_regs, known_more, living_found, member_ground}
+use Rattle.member_runs.proofs.MemberReads.{NoMore, found_regs, known_more, living_found}
 use Rattle.member_runs.proofs.NameWords.{NameIn, member_apart}
 
 -- ---- the code
@@ -110,7 +106,8 @@ follow_put {x} {p} {y} {members} {leaves} {member} around k n h g s one a declar
     ap (λ q. flow_on k (flow_on k (flow_on k q name) (λ u. give (BasicPointer u))) (λ v. M.assigned around (whole x) v))
     (through_is around n members leaves member k g declared
     ∙ part_found around p.state g.name members s.extent s.values k one s.named)
-    ∙ ap (λ (q : LeafKind). M.assigned around (whole x) (BasicPointer (name_in (seen q (s.values member [])))) k p.state)
+    ∙ ap (λ (q : LeafKind). M.assigned around (whole x) (BasicPointer (name_in (seen q (s.values member [])))) k
+    p.state)
     kind
     ∙ ap (λ v. M.assigned around (whole x) (BasicPointer (name_in v)) k p.state) a.value
     ∙ put_is around k a.held h
@@ -246,7 +243,8 @@ follow_reaches {k} {x} {y} {n} {members} {leaves} {member} {numbers} {p} {i} js 
     }) in
     let r = reach_moved {c'' = c + size_of all} {i'' = i + size_of all} (omega (arith, n1)) (omega (arith, n1))
     (reach_then r1 r2) in
-    subst (λ v'. Reach k.call.code c f v (c + size_of all) v' (λ b z. IsIn w q numbers (i + size_of all) b z)) (sym same)
+    subst (λ v'. Reach k.call.code c f v (c + size_of all) v' (λ b z. IsIn w q numbers (i + size_of all) b z)) (sym
+    same)
     (reach_map _ r (λ b z e.
     let m = e.holds.body.memory in
     let inside = pointer_inside t m.before m.stands.storage in

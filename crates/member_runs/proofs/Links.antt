@@ -1,6 +1,7 @@
--- A member that is assigned what a POINTER variable holds: the code of it, and how the name goes where the member stands.
-use Rattle.std.proofs.Common.{◌≡◌, ◌⊎◌, inl, inr, ℕ, suc, ◌+◌, ◌-◌, ◌*◌, ◌%◌, ◌^◌, ◌<◌, ◌≤◌, List, [], ◌∷◌, ◌++◌, length}
-use Rattle.std.proofs.Common.{Option, Some, Bool, true, refl, sym, ap, ◌∙◌, subst, arith, ⊎_elim}
+-- A member that is assigned what a POINTER variable holds: the code of it, and how the name goes where the member
+-- stands.
+use Rattle.std.proofs.Common.{◌≡◌, inl, inr, ℕ, suc, ◌+◌, ◌*◌, ◌%◌, ◌≤◌, List, ◌∷◌, ◌++◌, length}
+use Rattle.std.proofs.Common.{Some, true, refl, sym, ap, ◌∙◌, subst, arith, ⊎_elim}
 use Rattle.std.specs.Prelude.{cond, negsuc, pos, ◌==◌}
 use Rattle.rv_meaning.specs.Machine.{memory_size}
 use Rattle.rv_meaning.specs.Memory.{load, store}
@@ -32,11 +33,11 @@ use Rattle.run_steps.specs.Reach.{Family, Reach, reached}
 use Rattle.run_steps.proofs.Reach.{reach_map, reach_then, reached_holds}
 use Rattle.run_steps.proofs.Reaching.{reach_moved}
 use Rattle.run_steps.specs.Temporaries.{nothing}
-use Rattle.block_runs.specs.Machines.{AreIn, IsIn}
+use Rattle.block_runs.specs.Machines.{IsIn}
 use Rattle.block_runs.proofs.Places.{IsFrame, ground_at}
 use Rattle.block_runs.proofs.PointGrounds.{StandsIn, in_known}
-use Rattle.program_runs.specs.Statements.{Block, IsAmong}
-use Rattle.expression_runs.specs.Variables.{Spot, variable_of, whole}
+use Rattle.program_runs.specs.Statements.{Block}
+use Rattle.expression_runs.specs.Variables.{Spot, variable_of}
 use Rattle.area_runs.specs.Based.{based_of, pointer_declared}
 use Rattle.area_runs.proofs.BasedCode.{name_at_place}
 use Rattle.locator_runs.proofs.FourParts.{PartGoes, four_go}
@@ -51,7 +52,7 @@ use Rattle.member_runs.proofs.MemberCode.{found_code, found_coded}
 use Rattle.member_runs.proofs.MemberPoints.{StructureAt, member_place, member_told, member_within}
 use Rattle.member_runs.proofs.MemberPuts.{behind_put, place_low, put_services, put_stands, structure_held}
 use Rattle.member_runs.proofs.MemberReads.{found_regs, living_found, more_ground}
-use Rattle.member_runs.proofs.Waiting.{Waits, WordsTold, frame_at, waiting_address, waits_code, waits_reach, word_place}
+use Rattle.member_runs.proofs.Waiting.{Waits, WordsTold, frame_at, waiting_address, waits_code, word_place}
 use Rattle.member_runs.proofs.Waiting.{words_at, words_clear}
 
 -- ---- the code
@@ -239,7 +240,8 @@ given_reaches {k} {x} {n} {y} {members} {leaves} {member} {numbers} {p} {i} is o
     let r = reach_moved {c'' = c + size_of all} {i'' = i + size_of all} (omega (arith, n1)) (omega (arith, n1))
     (reach_then r1 r2) in
     let long = name_length a in
-    subst (λ v'. Reach k.call.code c f v (c + size_of all) v' (λ b u. IsIn w q numbers (i + size_of all) b u)) (sym same)
+    subst (λ v'. Reach k.call.code c f v (c + size_of all) v' (λ b u. IsIn w q numbers (i + size_of all) b u)) (sym
+    same)
     (reach_map _ r (λ b u e.
     let m = e.holds.body.memory in
     let there' = member_told s one m.before m.stands.storage in

@@ -76,10 +76,11 @@ use Rattle.area_runs.proofs.BasedReads.{there_at}
 use Rattle.area_runs.proofs.ChangedPoints.{generation_world}
 use Rattle.locator_runs.proofs.PointerPoints.{PointerAt, pointer_in}
 use Rattle.member_runs.specs.MemberAssignments.{IsAssignment, assignment}
-use Rattle.member_runs.specs.Members.{IsMember, IsStructure, member_of, member_part, structure_declared, structure_shape}
+use Rattle.member_runs.specs.Members.{IsMember, IsStructure, member_of, member_part, structure_declared}
+use Rattle.member_runs.specs.Members.{structure_shape}
 use Rattle.member_runs.proofs.MemberCode.{found_code, found_coded, leaf_of}
 use Rattle.member_runs.proofs.MemberMeaning.{behind_found, part_found, part_missing, through_is}
-use Rattle.member_runs.proofs.MemberPoints.{StructureAt, member_place, member_told, structure_at}
+use Rattle.member_runs.proofs.MemberPoints.{StructureAt, member_place, structure_at}
 use Rattle.member_runs.proofs.MemberPuts.{behind_put, designated_at, place_low, put_among, put_services, put_stands}
 use Rattle.member_runs.proofs.MemberPuts.{put_state}
 use Rattle.member_runs.proofs.MemberReads.{NoMore, found_regs, known_more, living_found, member_ground}
@@ -219,7 +220,8 @@ put_reaches k' x n members leaves member is one {numbers} {p} {index} none regis
     (Known (point_ground w p h) (services_of p) (held_after numbers 0 (word z)) (λ i. 0) nothing b) y)) none
     (λ l'. saved_reach k' 0 0 h registers c f (word z) small' l' (λ b. known_word k h (there b)))
     (front_of saves (finds ++ (back ++ value_stored)) l) in
-    let found = living_found {numbers = held_after numbers 0 (word z)} NoMore is one o' a s h (c + size_of saves) (reached r1)
+    let found = living_found {numbers = held_after numbers 0 (word z)} NoMore is one o' a s h (c + size_of saves)
+    (reached r1)
     (omega arith) (front_of finds (back ++ value_stored) l1)
     (known_more k h (reached r1) (λ b. in_known h o.image.parts (reached_holds r1 b))) in
     let r2 = found.reach in

@@ -49,7 +49,8 @@ through_is around {s} {x} n members leaves member k h declared =
     (λ o. (V.numbers around Y.NoNumber)
     >>= (λ is. V.variable_designated around (based_of n) o (member_part member) is))) (pointer_designated around k h)
     ∙ ap (λ v. V.variable_designated around (based_of n) (Some (name_in v)) (member_part member) [] k s) h.value
-    ∙ ap (λ o. given o (λ d. V.part_designated around h.name (shape_of [] d) (member_part member) []) stuck k s) declared
+    ∙ ap (λ o. given o (λ d. V.part_designated around h.name (shape_of [] d) (member_part member) []) stuck k s)
+    declared
 
 -- what is designated where the structure lives
 abbrev pub designated_member :

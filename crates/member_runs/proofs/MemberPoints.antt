@@ -1,15 +1,14 @@
 -- What a pointer variable points to at a point of its block: where its members stand, and what service 8 answers.
-use Rattle.std.proofs.Common.{◌≡◌, ℕ, ◌+◌, ◌*◌, ◌%◌, ◌^◌, ◌≤◌, ◌<◌, List, [], length, map, None, Some, true, refl}
-use Rattle.std.proofs.Common.{sym, ap, ◌∙◌, subst, arith}
+use Rattle.std.proofs.Common.{◌≡◌, ℕ, ◌+◌, ◌*◌, ◌%◌, ◌≤◌, List, [], length, map, None, Some, true}
+use Rattle.std.proofs.Common.{ap, ◌∙◌, subst, arith}
 use Rattle.std.proofs.lemmas.Bool.{le-leb}
 use Rattle.std.proofs.lemmas.Bool.Decides.{nat_tests}
 use Rattle.std.proofs.lemmas.List.{length-map}
 use Rattle.std.proofs.lemmas.Option.{slice_get_within}
-use Rattle.std.specs.Prelude.{ℤ, cond, int_le, negsuc, pos, slice_get, ◌&&◌, nat_le}
-use Rattle.rv_meaning.specs.Machine.{memory_size}
-use Rattle.pli_typing.specs.Signatures.{Leaf, LeafKind}
+use Rattle.std.specs.Prelude.{ℤ, cond, int_le, negsuc, pos, ◌&&◌, nat_le}
+use Rattle.pli_typing.specs.Signatures.{Leaf}
 use Rattle.pli_typing.specs.TypedTree as Y
-use Rattle.pli_meaning.specs.BasicValues.{BasicPointer, BasicValue, Name}
+use Rattle.pli_meaning.specs.BasicValues.{BasicValue, Name}
 use Rattle.pli_meaning.specs.Codes.{no_generation_code}
 use Rattle.pli_meaning.specs.Contents.{Generation, element_place, is_within, leaves_with}
 use Rattle.pli_meaning.specs.DeclaredShapes.{kind_of, leaf_of}
@@ -44,7 +43,7 @@ use Rattle.area_runs.proofs.BasedPoints.{IsLaidOut}
 use Rattle.locator_runs.specs.Pointers.{IsPointer}
 use Rattle.locator_runs.proofs.PointerPoints.{PointerAt, pointer_place}
 use Rattle.member_runs.specs.Members.{IsMember, IsStructure, structure_shape}
-use Rattle.member_runs.proofs.MemberMeaning.{leaf_for, leaf_got, leaf_is, structure_of}
+use Rattle.member_runs.proofs.MemberMeaning.{leaf_got, leaf_is, structure_of}
 
 -- ---- where a member stands
 

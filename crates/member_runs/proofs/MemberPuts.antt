@@ -1,7 +1,6 @@
 -- The point behind an assignment to a member of what a pointer variable points to: all that holds before holds there.
 use Rattle.std.proofs.Common.{◌≡◌, ℕ, ◌+◌, ◌-◌, ◌≤◌, List, [], length, Some, refl}
-use Rattle.std.proofs.Common.{true, sym, ap, ◌∙◌, subst, arith}
-use Rattle.std.specs.Prelude.{ℤ}
+use Rattle.std.proofs.Common.{sym, ap, ◌∙◌, subst, arith}
 use Rattle.pli_typing.specs.Signatures.{Leaf, LeafKind}
 use Rattle.pli_typing.specs.TypedTree as Y
 use Rattle.pli_meaning.specs.BasicValues.{BasedName, BasicValue, Name, NullName, VariableName}
@@ -29,7 +28,7 @@ use Rattle.block_runs.proofs.PointGrounds.{StandsIn}
 use Rattle.program_runs.specs.Statements.{Block, IsAmong}
 use Rattle.area_runs.proofs.ChangedPoints.{Follows, follows_among, generation_follows, generation_input}
 use Rattle.area_runs.proofs.ChangedPoints.{generation_world, same_services, with_state}
-use Rattle.member_runs.specs.Members.{IsMember, structure_shape}
+use Rattle.member_runs.specs.Members.{IsMember}
 use Rattle.member_runs.proofs.MemberMeaning.{designated_member, leaf_is, seen_is, structure_of}
 use Rattle.member_runs.proofs.MemberPoints.{StructureAt, address_is, element_now, member_place, member_size}
 use Rattle.member_runs.proofs.MemberPoints.{member_within}

@@ -1,5 +1,6 @@
--- A member of what a pointer variable points to is found by service 8, and read; where nothing lives there, the run ends.
-use Rattle.std.proofs.Common.{◌≡◌, ℕ, ◌+◌, ◌*◌, ◌%◌, ◌^◌, ◌<◌, ◌≤◌, List, [], ◌∷◌, ◌++◌, length, Option, None, Some}
+-- A member of what a pointer variable points to is found by service 8, and read; where nothing lives there, the run
+-- ends.
+use Rattle.std.proofs.Common.{◌≡◌, ℕ, ◌+◌, ◌%◌, ◌^◌, ◌<◌, ◌≤◌, List, [], ◌∷◌, ◌++◌, Option, None, Some}
 use Rattle.std.proofs.Common.{refl, sym, ap, ◌∙◌, subst, arith, true}
 use Rattle.std.specs.Prelude.{ℤ, pos, ◌==◌}
 use Rattle.std.proofs.lemmas.List.{append_assoc}
@@ -15,7 +16,7 @@ use Rattle.pli_typing.specs.TypedTree as Y
 use Rattle.pli_meaning.specs.BasicValues.{BasicBit, BasicNumber, BasicOffset, BasicPointer, BasicText, BasicValue, Name}
 use Rattle.pli_meaning.specs.Contents.{Generation, number_in, seen}
 use Rattle.pli_meaning.specs.Control.{Meaning, Normal, give, ◌>>=◌}
-use Rattle.pli_meaning.specs.DeclaredShapes.{declared_variable, kind_of}
+use Rattle.pli_meaning.specs.DeclaredShapes.{declared_variable}
 use Rattle.pli_meaning.specs.Evaluating as V
 use Rattle.pli_meaning.specs.Numbers.{is_of_precision}
 use Rattle.pli_meaning.specs.Raising as R
@@ -29,7 +30,7 @@ use Rattle.pli_coding.specs.Assembly.{JumpTo, Plain, RaiseError, size_of}
 use Rattle.pli_coding.specs.Expressions.{number_code}
 use Rattle.pli_coding.specs.Instructions.{number, small, status_tested}
 use Rattle.pli_coding.specs.Registers.{a0, a1, a2, a3, a4, a7, zero_register}
-use Rattle.storage_relation.specs.Served.{Holds, place_now}
+use Rattle.storage_relation.specs.Served.{place_now}
 use Rattle.storage_relation.specs.Telling.{IsOf, Tells}
 use Rattle.storage_relation.proofs.Values.{word_loaded}
 use Rattle.activation_relation.specs.Frames.{frame_under, upper_top}
@@ -138,7 +139,8 @@ known_more k h f there b =
 -- the name's place, the signature's number, the member's, and the rest
 asking_comes :
     {k : Block} {x : Spot} {numbers : ℕ → ℕ} {p : Point} {i : ℕ} (E : List ℕ → Type 0) (is : IsPointer k x)
-    (signature member : ℕ) (o : IsAmong k numbers p) (h : frame_of k p) (c : ℕ) (f : Family) → (signature < 2 ^ 31) × (member < 2 ^ 31) →
+    (signature member : ℕ) (o : IsAmong k numbers p) (h : frame_of k p) (c : ℕ) (f : Family) → (signature < 2 ^ 31) ×
+    (member < 2 ^ 31) →
     Linked k.call.surroundings.links k.call.code i
     (own_code a0 (name_at_place k.environment x) ++ asking_code signature member) →
     ((b : Base) → At b i (Known (more_ground k.call.surroundings p E h) (services_of p) numbers (λ j. 0) nothing b)
@@ -206,7 +208,8 @@ asking_comes {k} {x} {numbers} {p} E is signature member o h c f few l there =
         ),
       );
     }) in
-    reach_moved (omega (arith, n0, n1, n2)) (omega (arith, n0, n1, n2)) (reach_then r1 (reach_then r2 (reach_then r3 r4)))
+    reach_moved (omega (arith, n0, n1, n2)) (omega (arith, n0, n1, n2)) (reach_then r1 (reach_then r2 (reach_then r3
+    r4)))
 
 -- ---- it lives
 
@@ -239,7 +242,8 @@ found_at b x n e inside = let v = b.valid.1 in omega (arith, e, inside, v)
 -- the service, and the test of its status
 pub living_found :
     {k : Block} {x n : Spot} {members : List Y.Member} {leaves : List Y.Leaf} {member : ℕ} {type : Y.LeafType}
-    {numbers : ℕ → ℕ} {p : Point} {i : ℕ} (E : List ℕ → Type 0) (is : IsStructure k x n members leaves) (one : IsMember leaves member type)
+    {numbers : ℕ → ℕ} {p : Point} {i : ℕ} (E : List ℕ → Type 0) (is : IsStructure k x n members leaves) (one :
+    IsMember leaves member type)
     (o : IsAmong k numbers p) (a : PointerAt k x is.pointer p) (s : StructureAt p a.points.name members leaves)
     (h : frame_of k p) (c : ℕ) (f : Family) → 4 ≤ member_size type →
     Linked k.call.surroundings.links k.call.code i (found_code (name_at_place k.environment x) is.signature member) →

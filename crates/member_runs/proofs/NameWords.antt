@@ -1,20 +1,18 @@
 -- A name among the members of a structure, and the words that it takes.
-use Rattle.std.proofs.Common.{◌≡◌, ◌≢◌, ◌⊎◌, inl, inr, ℕ, ◌+◌, ◌*◌, ◌%◌, ◌<◌, ◌≤◌, List, [], length, Some, refl, sym, ap}
+use Rattle.std.proofs.Common.{◌≡◌, ◌≢◌, ◌⊎◌, inl, inr, ℕ, ◌+◌, List, [], Some, sym, ap}
 use Rattle.std.proofs.Common.{◌∙◌, subst, arith, ⊎_elim}
 use Rattle.std.proofs.lemmas.Bool.{cases_eq}
 use Rattle.pli_typing.specs.Signatures.{Pointer}
 use Rattle.pli_typing.specs.TypedTree as Y
-use Rattle.pli_meaning.specs.BasicValues.{BasicBit, BasicNumber, BasicOffset, BasicPointer, BasicText, BasicValue, Name}
-use Rattle.pli_meaning.specs.StorageState.{generation_at, generation_of}
+use Rattle.pli_meaning.specs.BasicValues.{BasicPointer, Name}
 use Rattle.storage_relation.specs.Served.{Holds, place_now}
 use Rattle.storage_relation.specs.Standing.{Alone, Holder, bytes_of, held}
 use Rattle.storage_relation.specs.Stored.{Beside}
 use Rattle.storage_relation.specs.Telling.{IsName, IsOf, Tells}
-use Rattle.storage_relation.proofs.Named.{alone_holder}
 use Rattle.activation_relation.specs.Layers.{Point, now}
 use Rattle.program_runs.specs.Statements.{Block}
 use Rattle.expression_runs.specs.Variables.{Spot}
-use Rattle.area_runs.proofs.BasedMeaning.{Points, pointer_generation}
+use Rattle.area_runs.proofs.BasedMeaning.{pointer_generation}
 use Rattle.locator_runs.specs.Pointers.{IsPointer}
 use Rattle.locator_runs.proofs.PointerPoints.{PointerAt, holder_is, pointer_of, pointer_place}
 use Rattle.member_runs.specs.Members.{IsMember}

@@ -1,17 +1,16 @@
 -- An AREA variable at a point of its block, and a structure that is placed in it: what service 10 answers.
-use Rattle.std.proofs.Common.{◌≡◌, ◌≢◌, inl, inr, ℕ, zero, suc, ◌+◌, ◌/◌, ◌%◌, ◌^◌, ◌<◌, ◌≤◌, List, [], ◌∷◌}
+use Rattle.std.proofs.Common.{◌≡◌, ◌≢◌, ℕ, suc, ◌+◌, ◌^◌, ◌<◌, ◌≤◌, List, [], ◌∷◌}
 use Rattle.std.proofs.Common.{length, Option, None, Some, Bool, true, false, refl, sym, ap, ◌∙◌, subst, arith}
 use Rattle.std.proofs.lemmas.Bool.{le-leb}
 use Rattle.std.specs.Int.{w32}
-use Rattle.std.specs.Prelude.{FitsSigned, ℤ, cond, pos, ◌&&◌, nat_le}
+use Rattle.std.specs.Prelude.{FitsSigned, cond, pos, ◌&&◌, nat_le}
 use Rattle.rv_meaning.specs.Machine.{memory_size}
-use Rattle.rv_meaning.specs.Memory.{load}
 use Rattle.pli_typing.specs.Signatures.{Area, Bit, Character, Fixed, Leaf, LeafKind, Offset, Pointer, Varying}
-use Rattle.pli_meaning.specs.BasicValues.{BasedName, VariableName}
+use Rattle.pli_meaning.specs.BasicValues.{BasedName}
 use Rattle.pli_meaning.specs.Codes.{area_code, heap_full_code}
 use Rattle.pli_meaning.specs.Contents.{Generation, IsOrdered, Placed, end_of, footprint_of, fresh, gap, gap_from}
 use Rattle.pli_meaning.specs.Contents.{with_placed}
-use Rattle.pli_meaning.specs.DeclaredShapes.{initial_of, shape_of}
+use Rattle.pli_meaning.specs.DeclaredShapes.{initial_of}
 use Rattle.pli_meaning.specs.StorageState as Q
 use Rattle.pli_meaning.specs.StorageState.{Activation, AreaContents, Living, area_at, area_changed, area_in}
 use Rattle.pli_meaning.specs.StorageState.{area_of_kind}
@@ -21,27 +20,23 @@ use Rattle.area_keeper.proofs.Alikeness.{keeps_alike}
 use Rattle.area_keeper.proofs.Agreement.{length_part}
 use Rattle.pli_serving.specs.AreaServices as A
 use Rattle.pli_serving.specs.Answers.{Done}
-use Rattle.pli_serving.specs.Arguments.{name_in}
-use Rattle.pli_serving.specs.Bytes.{name_at, name_bytes}
+use Rattle.pli_serving.specs.Bytes.{name_bytes}
 use Rattle.pli_serving.specs.Templates.{shape_at}
 use Rattle.pli_serving.specs.Values.{generation_bytes}
-use Rattle.storage_relation.specs.Changes.{Asking, GivesNamed, IsAsking, made_by}
+use Rattle.storage_relation.specs.Changes.{GivesNamed, IsAsking, made_by}
 use Rattle.storage_relation.specs.Served.{Holds, area_bytes_of, call}
-use Rattle.storage_relation.specs.Standing.{AreaOf, AreaStands, IsValued, held, leaf_in, leaves_of, size_of}
+use Rattle.storage_relation.specs.Standing.{AreaOf, AreaStands, IsValued, held, leaves_of, size_of}
 use Rattle.storage_relation.specs.Stored.{IsBeside, StoredAs, slice, taken_as, with_heap_made}
 use Rattle.storage_relation.proofs.AreaLaws.{alike, area_placed}
 use Rattle.storage_relation.proofs.Calls.{allocate_step, allocated_holds, full_answered}
 use Rattle.storage_relation.proofs.Confined.{beside_both, beside_written}
 use Rattle.storage_relation.proofs.Named.{area_holder}
 use Rattle.storage_relation.proofs.Placing as Placing
-use Rattle.storage_relation.proofs.Rows.{none_of_heap}
 use Rattle.storage_relation.proofs.Holders.{eqb-other}
 use Rattle.storage_relation.proofs.Spelling.{reads_spelled, spelled_length}
 use Rattle.storage_relation.proofs.Storing.{taken-other}
-use Rattle.activation_relation.specs.Layers.{Layer, Point, now, services_of}
-use Rattle.activation_relation.specs.Remaining.{LivesOn}
+use Rattle.activation_relation.specs.Layers.{Point, now, services_of}
 use Rattle.program_runs.specs.Statements.{Block, IsAmong}
-use Rattle.argument_runs.proofs.Parameters.{name_there}
 use Rattle.expression_runs.specs.Variables.{Spot}
 use Rattle.area_runs.specs.Allocations.{HasArea}
 use Rattle.area_runs.proofs.BasedPoints.{IsLaidOut}
@@ -186,7 +181,8 @@ pub record Asks (members : List Y.Member) (leaves : List Y.Leaf) {k : Block} {x 
   pub shape : shape_at p.places.signatures signature ≡ Some (structure_shape members leaves)
 
 pub asks_at :
-    (members : List Y.Member) (leaves : List Y.Leaf) → IsUninitialized members leaves → {k : Block} {x : Spot} {numbers : ℕ → ℕ} {p : Point} (is : HasArea k x) (o : IsAmong k numbers p)
+    (members : List Y.Member) (leaves : List Y.Leaf) → IsUninitialized members leaves → {k : Block} {x : Spot}
+    {numbers : ℕ → ℕ} {p : Point} (is : HasArea k x) (o : IsAmong k numbers p)
     (signature destination base : ℕ) (m : List ℕ) → signature < 2 ^ 31 →
     shape_at p.places.signatures signature ≡ Some (structure_shape members leaves) → Holds (now p m) →
     FramesStand k.call.surroundings.parts base m p.state.activations p.control.layers → IsLaidOut p →
@@ -229,12 +225,13 @@ same_bytes o x y e = ap second e
     second (Some p) = p.1
 
 -- where it has a gap
-pub record Answers (members : List Y.Member) (leaves : List Y.Leaf) {k : Block} {x : Spot} (is : HasArea k x) (p : Point)
+pub record Answers (members : List Y.Member) (leaves : List Y.Leaf) {k : Block} {x : Spot} (is : HasArea k x) (p :
+    Point)
     (signature destination : ℕ) (m : List ℕ) (o : ℕ) : Type 0 where
   pub memory : List ℕ
   pub holds : Holds (record (now p memory) {
-      state = placed_state (new_structure members leaves) is.known.serial o p.state;
-    })
+    state = placed_state (new_structure members leaves) is.known.serial o p.state;
+  })
   pub beside :
       IsBeside (p.places.at is.known.serial) (p.keeper.bytes_for is.capacity) m memory
   pub offset : o < 2 ^ 32
@@ -243,7 +240,8 @@ pub record Answers (members : List Y.Member) (leaves : List Y.Leaf) {k : Block} 
       ≡ Done (services_of p) (with_part (name_bytes (BasedName is.known.serial o)) destination memory) (area_place is) 0
 
 pub placed_answer :
-    (members : List Y.Member) (leaves : List Y.Leaf) {k : Block} {x : Spot} {p : Point} (is : HasArea k x) (signature destination : ℕ) (m : List ℕ) →
+    (members : List Y.Member) (leaves : List Y.Leaf) {k : Block} {x : Spot} {p : Point} (is : HasArea k x) (signature
+    destination : ℕ) (m : List ℕ) →
     Asks members leaves is p signature destination m → (a : AreaAt k x is p) (o : ℕ) →
     gap is.capacity (footprint_of (new_structure members leaves)) a.living.placed ≡ Some o →
     Answers members leaves is p signature destination m o
@@ -351,7 +349,8 @@ placed_answer members leaves {k} {x} {p} is signature destination m asks at o fr
         let ordered = keeps_alike.ordered is.capacity area.kept at.living.placed
         (alike p.keeper p.places.signatures bytes area.kept at.living.placed area.are)
         (h.keeps.order.ordered bytes (record { capacity = is.capacity; placed = area.kept }) area.stands) in
-        let within = gap_within 0 is.capacity (footprint_of (new_structure members leaves)) at.living.placed o ordered free in
+        let within = gap_within 0 is.capacity (footprint_of (new_structure members leaves)) at.living.placed o ordered
+        free in
         let most = h.keeps.order.bounded bytes (record { capacity = is.capacity; placed = area.kept }) area.stands in
         omega (arith, within, most)
 
@@ -371,13 +370,15 @@ placed_answer members leaves {k} {x} {p} is signature destination m asks at o fr
 
 -- where it has none
 pub full_answer :
-    (members : List Y.Member) (leaves : List Y.Leaf) {k : Block} {x : Spot} {p : Point} (is : HasArea k x) (signature destination : ℕ) (m : List ℕ) →
+    (members : List Y.Member) (leaves : List Y.Leaf) {k : Block} {x : Spot} {p : Point} (is : HasArea k x) (signature
+    destination : ℕ) (m : List ℕ) →
     Asks members leaves is p signature destination m → (a : AreaAt k x is p) →
     gap is.capacity (footprint_of (new_structure members leaves)) a.living.placed ≡ None →
     A.allocate_served (call (now p m)) (area_place is) signature 0 0 destination
     ≡ Done (services_of p) m (area_place is) area_code
 full_answer members leaves {p = p} is signature destination m asks at none =
-    full_answered (now p m) asks.holds (asking (area_place is) signature destination) is.known.serial (new_structure members leaves)
+    full_answered (now p m) asks.holds (asking (area_place is) signature destination) is.known.serial (new_structure
+    members leaves)
     (record { capacity = is.capacity; placed = at.living.placed }) asks.asks at.area none
     ∙ ap (λ q. Done (services_of p) m (area_place is) (cond q heap_full_code area_code))
     (eqb-other is.known.serial heap_serial at.some)

@@ -1,25 +1,20 @@
 -- The code of ALLOCATE of a structure in an area, where it sets a pointer variable of the running frame.
-use Rattle.std.proofs.Common.{◌≡◌, ℕ, ◌+◌, [], ◌∷◌, ◌++◌, Option, Some, None, Bool, true, ap, ◌∙◌}
+use Rattle.std.proofs.Common.{◌≡◌, ℕ, ◌+◌, [], ◌++◌, Option, Some, None, Bool, true, ap, ◌∙◌}
 use Rattle.std.specs.Prelude.{cond, negsuc, pos, ◌==◌, unwrap_or, if◌then◌else◌}
-use Rattle.rv_meaning.specs.declared.instr.BranchTest.TheVariants as Test
 use Rattle.rv_meaning.specs.declared.instr.Register.{Register}
-use Rattle.pli_language.specs.declared.condition.Condition.TheVariants as C
 use Rattle.pli_typing.specs.TypedTree as Y
-use Rattle.pli_meaning.specs.Codes.{area_code}
 use Rattle.pli_meaning.specs.DeclaredShapes.{declared_variable}
 use Rattle.pli_coding.specs.Allocating.{act_code, amounts_found, behind_amounts, both_kept, placing_code}
-use Rattle.pli_coding.specs.Arithmetic.{raised}
-use Rattle.pli_coding.specs.Assembly.{Code, JumpBack, size_of}
+use Rattle.pli_coding.specs.Assembly.{Code}
 use Rattle.pli_coding.specs.Environments.{Environment, no_declaration, none_taken}
 use Rattle.pli_coding.specs.Extents.{initial_code}
 use Rattle.pli_coding.specs.Frames.{display, has_constant_size, own_offset}
-use Rattle.pli_coding.specs.Instructions.{load_word, number, plus, service, skip_where, small, store_word}
+use Rattle.pli_coding.specs.Instructions.{load_word, plus, service}
 use Rattle.pli_coding.specs.Locating.{FrameName, NamePlace, leaf_place, name_offset, table_number, waiting_name}
 use Rattle.pli_coding.specs.Locating.{where_standing}
-use Rattle.pli_coding.specs.Registers.{a0, a1, a2, a3, a4, frame_register, zero_register}
+use Rattle.pli_coding.specs.Registers.{a0, a1, a2, a3, a4, frame_register}
 use Rattle.pli_coding.specs.Statements.{stmt_code}
 use Rattle.pli_coding.specs.Storing.{name_stored}
-use Rattle.program_runs.proofs.Variables.{own_code}
 use Rattle.expression_runs.specs.Variables.{Spot, variable_of, whole}
 use Rattle.variable_runs.specs.Known.{place_of}
 use Rattle.area_runs.specs.Allocations.{allocation}

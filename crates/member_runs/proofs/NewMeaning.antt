@@ -1,9 +1,8 @@
 -- What ALLOCATE of a structure in an area means: it is placed in the least gap, or AREA is raised.
-use Rattle.std.proofs.Common.{◌≡◌, ◌≢◌, ℕ, suc, [], ◌∷◌, Option, None, Some, refl, sym, ap, ◌∙◌}
+use Rattle.std.proofs.Common.{◌≡◌, ◌≢◌, ℕ, suc, [], ◌∷◌, Option, None, Some, sym, ap, ◌∙◌}
 use Rattle.std.specs.Prelude.{cond, ◌==◌}
 use Rattle.pli_language.specs.declared.condition.Condition.TheVariants as C
 use Rattle.pli_typing.specs.TypedTree as Y
-use Rattle.pli_meaning.specs.BasicValues.{BasedName, BasicPointer, Name, VariableName}
 use Rattle.pli_meaning.specs.Codes.{area_code, heap_full_code}
 use Rattle.pli_meaning.specs.Contents.{footprint_of, gap}
 use Rattle.pli_meaning.specs.Control.{Meaning, Normal, act, choose, flow_on, give, given, looked, stored, stuck, ◌>>=◌}
@@ -15,7 +14,7 @@ use Rattle.pli_meaning.specs.Placing as P
 use Rattle.pli_meaning.specs.Raising as R
 use Rattle.pli_meaning.specs.Raising.{Around}
 use Rattle.pli_meaning.specs.StorageState.{AreaContents, State, area_at, heap_serial, standing_for, with_area}
-use Rattle.pli_meaning.specs.StorageState.{with_generation, with_world}
+use Rattle.pli_meaning.specs.StorageState.{with_world}
 use Rattle.pli_meaning.specs.World.{counted}
 use Rattle.storage_relation.proofs.Holders.{eqb-other}
 use Rattle.expression_runs.specs.Variables.{Spot, variable_of, whole}
@@ -44,7 +43,8 @@ allocations_are around n p x members leaves d serial k s declared stands =
     stuck k s)
     (no_more around)) declared
     ∙ ap (λ o. flow_on k (flow_on k (R.or_error around 101 (V.serial_of o) k s)
-    (λ a. (P.placing around.turns around a (new_structure members leaves)) >>= (set_locator around p a))) (no_more around)) stands
+    (λ a. (P.placing around.turns around a (new_structure members leaves)) >>= (set_locator around p a))) (no_more
+    around)) stands
 
 -- ---- the placing
 
@@ -84,4 +84,3 @@ placing_full g around turns serial k a s some there none =
     ∙ ap (λ q. cond q (R.error around heap_full_code k s)
     (flow_on k (R.raised around C.Area area_code k s) (place_again g around turns serial)))
     (eqb-other serial heap_serial some)
-

@@ -1,11 +1,10 @@
 -- The point behind ALLOCATE of a structure: the area has one generation more, and the pointer variable its name.
-use Rattle.std.proofs.Common.{◌≡◌, ◌≢◌, ◌⊎◌, inl, inr, ℕ, ◌+◌, List, []}
+use Rattle.std.proofs.Common.{◌≡◌, ℕ, ◌+◌, List, []}
 use Rattle.std.proofs.Common.{Some, refl, ap, ◌∙◌, subst, arith}
 use Rattle.pli_meaning.specs.BasicValues.{BasedName, BasicPointer, Name, VariableName}
-use Rattle.pli_meaning.specs.Contents.{Generation, Placed, with_placed}
+use Rattle.pli_meaning.specs.Contents.{Generation, with_placed}
 use Rattle.pli_meaning.specs.Placing as P
-use Rattle.pli_meaning.specs.StorageState.{Living, State, area_changed, generation_at, generation_of, living_changed}
-use Rattle.pli_meaning.specs.StorageState.{living_of}
+use Rattle.pli_meaning.specs.StorageState.{State, area_changed, generation_at, generation_of}
 use Rattle.area_keeper.specs.KeptAreas.{with_part}
 use Rattle.pli_serving.specs.Bytes.{name_bytes}
 use Rattle.storage_relation.specs.Changes.{IsAssignable}
@@ -82,7 +81,8 @@ allocated_among {k} {p = p} g n o h among =
     let w = k.call.surroundings in
     follows_among (allocated_state g n o p.state h) refl
     (follows_then (placed_follows w g n o p)
-    (generation_follows w (VariableName (points_then g n o h).serial) (pointing g n o h) (placed_point g n o p) (λ y. refl)
+    (generation_follows w (VariableName (points_then g n o h).serial) (pointing g n o h) (placed_point g n o p) (λ y.
+    refl)
     (λ y. refl))) among
 
 pub allocated_services :
@@ -103,7 +103,8 @@ allocated_services g n o p h =
 pub allocated_stands :
     (members : List Y.Member) (leaves : List Y.Leaf) {k : Block} {x : Spot} {p : Point} {a : Spot} (w : Surroundings)
     (is : IsPointer k x) (area : HasArea k a) (at : AreaAt k a area p) (pointer : PointerAt k x is p) (signature o : ℕ)
-    (b : Base) (memory : List ℕ) (found : Answers members leaves area p signature (pointer_place is) memory o) → Stands w p →
+    (b : Base) (memory : List ℕ) (found : Answers members leaves area p signature (pointer_place is) memory o) →
+    Stands w p →
     StandsIn w p b memory →
     StandsIn w (allocated_point (new_structure members leaves) area.known.serial o p pointer.points) b
     (with_part (name_bytes (BasedName area.known.serial o)) (pointer_place is) found.memory)

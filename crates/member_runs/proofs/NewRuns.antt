@@ -120,12 +120,12 @@ split_whole {k} {p} {n} {x} is area =
 pub record Given (k : Block) (p n x : Spot) (members : List Y.Member) (leaves : List Y.Leaf) (q : Point)
     (numbers : ℕ → ℕ) : Type 0
   where
-  pub is : IsStructure k p n members leaves
-  pub new : IsUninitialized members leaves
-  pub area : HasArea k x
-  pub words : 2 ≤ area.layer.words
-  pub waits : (i : ℕ) → area.layer.waits i ≡ None
-  pub among : IsAmong k numbers q
+    pub is : IsStructure k p n members leaves
+    pub new : IsUninitialized members leaves
+    pub area : HasArea k x
+    pub words : 2 ≤ area.layer.words
+    pub waits : (i : ℕ) → area.layer.waits i ≡ None
+    pub among : IsAmong k numbers q
 
 abbrev frame_at :
     {k : Block} {p n x : Spot} {members : List Y.Member} {leaves : List Y.Leaf} {q : Point} {numbers : ℕ → ℕ} →
@@ -133,7 +133,8 @@ abbrev frame_at :
 frame_at z = point_frame z.among.stands z.among.image
 
 given_comes :
-    {k : Block} {p n x : Spot} {members : List Y.Member} {leaves : List Y.Leaf} {q : Point} {numbers : ℕ → ℕ} {i : ℕ} (z : Given k p n x members leaves q numbers) (c : ℕ)
+    {k : Block} {p n x : Spot} {members : List Y.Member} {leaves : List Y.Leaf} {q : Point} {numbers : ℕ → ℕ} {i : ℕ}
+    (z : Given k p n x members leaves q numbers) (c : ℕ)
     (f : Family) → Linked k.call.surroundings.links k.call.code i (asked_code z.is z.area) →
     AreIn k.call.surroundings q numbers i f →
     Reach k.call.code c f (services_of q) (c + size_of (asked_code z.is z.area)) (services_of q)
@@ -192,7 +193,8 @@ given_comes {k} {p} {n} {x} {members} {leaves} {q} {numbers} {i} z c f l there =
 
 -- what service 10 is asked at a machine's memory
 asks_of :
-    {k : Block} {p n x : Spot} {members : List Y.Member} {leaves : List Y.Leaf} {q : Point} {numbers : ℕ → ℕ} {i : ℕ} {rs : Base → List (ℕ × ℕ)}
+    {k : Block} {p n x : Spot} {members : List Y.Member} {leaves : List Y.Leaf} {q : Point} {numbers : ℕ → ℕ} {i : ℕ}
+    {rs : Base → List (ℕ × ℕ)}
     (z : Given k p n x members leaves q numbers) → length k.call.code ≤ most_code → (b : Base) (y : Whole) →
     At b i (Known (point_ground k.call.surroundings q (frame_at z)) (services_of q) numbers (λ j. 0) rs b) y →
     Asks members leaves z.area q z.is.signature (pointer_place z.is.pointer) y.machine.memory
@@ -202,20 +204,23 @@ asks_of {k} {members = members} {leaves} {q} z small' b y s =
     let low = is.pointer.known.low in
     let inside = is.pointer.known.inside in
     asks_at members leaves z.new z.area o is.signature (pointer_place is.pointer) b.at y.machine.memory is.number
-    (shapes_remain o.later.remains is.signature (structure_shape members leaves) is.numbered) s.holds.body.memory.storage
+    (shapes_remain o.later.remains is.signature (structure_shape members leaves) is.numbered)
+    s.holds.body.memory.storage
     s.holds.body.memory.frames (laid_out o (omega (arith, small'))) (omega (arith, low), omega (arith, inside))
 
 -- ---- a gap is found
 
 pub found_reaches :
-    {k : Block} {p n x : Spot} {members : List Y.Member} {leaves : List Y.Leaf} {q : Point} {numbers : ℕ → ℕ} {i : ℕ} (z : Given k p n x members leaves q numbers)
+    {k : Block} {p n x : Spot} {members : List Y.Member} {leaves : List Y.Leaf} {q : Point} {numbers : ℕ → ℕ} {i : ℕ}
+    (z : Given k p n x members leaves q numbers)
     (a : PointerAt k p z.is.pointer q) (at : AreaAt k x z.area q) (o : ℕ) →
     gap z.area.capacity (footprint_of (new_structure members leaves)) at.living.placed ≡ Some o → (c : ℕ) (f : Family) →
     Linked k.call.surroundings.links k.call.code i (whole_code z.is z.area) →
     AreIn k.call.surroundings q numbers i f →
     Reach k.call.code c f (services_of q) (c + size_of (whole_code z.is z.area))
     (services_of (allocated_point (new_structure members leaves) z.area.known.serial o q a.points))
-    (λ b y. IsIn k.call.surroundings (allocated_point (new_structure members leaves) z.area.known.serial o q a.points) numbers
+    (λ b y. IsIn k.call.surroundings (allocated_point (new_structure members leaves) z.area.known.serial o q a.points)
+    numbers
     (i + size_of (whole_code z.is z.area)) b y)
 found_reaches {k} {p} {n} {x} {members} {leaves} {q} {numbers} {i} z a at o free c f l there =
     let w = k.call.surroundings in
@@ -233,7 +238,8 @@ found_reaches {k} {p} {n} {x} {members} {leaves} {q} {numbers} {i} z a at o free
     let g = reached r1 in
     let serial = area.known.serial in
     let u = allocated_point (new_structure members leaves) serial o q a.points in
-    let answers : (b : Base) → Answers members leaves area q is.signature (pointer_place is.pointer) (g b).machine.memory o =
+    let answers : (b : Base) → Answers members leaves area q is.signature (pointer_place is.pointer) (g
+    b).machine.memory o =
     λ b. placed_answer members leaves area is.signature (pointer_place is.pointer) (g b).machine.memory
     (asks_of z small' b (g b) (reached_holds r1 b)) at o free in
     let final : Base → List ℕ =
@@ -265,7 +271,8 @@ found_reaches {k} {p} {n} {x} {members} {leaves} {q} {numbers} {i} z a at o free
         registers = s.body.registers;
         bytes = length_with_part (name_bytes (BasedName serial o)) (pointer_place is.pointer) (answers b).memory
             (omega (arith, inside, many, bytes)) ∙ many ∙ bytes;
-        memory = allocated_stands members leaves w is.pointer area at a is.signature o b (g b).machine.memory (answers b) z.among.stands
+        memory = allocated_stands members leaves w is.pointer area at a is.signature o b (g b).machine.memory (answers
+            b) z.among.stands
             s.body.memory;
       };
       regs = (refl, tt);
@@ -278,14 +285,16 @@ found_reaches {k} {p} {n} {x} {members} {leaves} {q} {numbers} {i} z a at o free
     let all = reach_moved {c'' = c + size_of (whole_code is area)} {i'' = i + size_of (whole_code is area)}
     (omega (arith, n0)) (omega (arith, n0)) (reach_then r1 (reach_then r2 r3)) in
     subst (λ s. Reach code c f (services_of q) (c + size_of (whole_code is area)) s
-    (λ b y. IsIn w u numbers (i + size_of (whole_code is area)) b y)) (sym (allocated_services (new_structure members leaves) serial o q a.points))
+    (λ b y. IsIn w u numbers (i + size_of (whole_code is area)) b y)) (sym (allocated_services (new_structure members
+    leaves) serial o q a.points))
     (reach_map _ all (λ b y s.
     in_known {t = λ j. 0} {rs = nothing} h z.among.image.parts
     (record {
       pc = s.pc;
       holds = record {
         body = record {
-          services = s.holds.body.services ∙ sym (allocated_services (new_structure members leaves) serial o q a.points);
+          services = s.holds.body.services ∙ sym (allocated_services (new_structure members leaves) serial o q
+              a.points);
           registers = s.holds.body.registers;
           bytes = s.holds.body.bytes;
           memory = s.holds.body.memory;
@@ -297,7 +306,8 @@ found_reaches {k} {p} {n} {x} {members} {leaves} {q} {numbers} {i} z a at o free
 -- ---- there is none
 
 pub full_comes :
-    {k : Block} {p n x : Spot} {members : List Y.Member} {leaves : List Y.Leaf} {q : Point} {numbers : ℕ → ℕ} {i : ℕ} {aims : Aims (Unit {0})}
+    {k : Block} {p n x : Spot} {members : List Y.Member} {leaves : List Y.Leaf} {q : Point} {numbers : ℕ → ℕ} {i : ℕ}
+    {aims : Aims (Unit {0})}
     (closed : Closed k.call.code aims) (z : Given k p n x members leaves q numbers)
     (at : AreaAt k x z.area q) (around : Around) (routines : Routines k.call.surroundings.links k.call.code) →
     IsSystem (Q.force q.state.activations C.Area) × IsSystem (Q.force q.state.activations C.Error) →
@@ -307,7 +317,8 @@ pub full_comes :
     Linked k.call.surroundings.links k.call.code i (whole_code z.is z.area) →
     AreIn k.call.surroundings q numbers i f →
     Comes k.call.code c f (services_of q) aims (R.raised around C.Area area_code k.call.surroundings.acts q.state)
-full_comes {k} {p} {n} {x} {members} {leaves} {q} {numbers} {i} closed z at around routines system none c f afford line l
+full_comes {k} {p} {n} {x} {members} {leaves} {q} {numbers} {i} closed z at around routines system none c f afford
+    line l
     there =
     let w = k.call.surroundings in
     let code = k.call.code in
@@ -336,7 +347,8 @@ full_comes {k} {p} {n} {x} {members} {leaves} {q} {numbers} {i} closed z at arou
           s.regs.1.1.1.1.0 s.regs.1.1.1.0 s.regs.1.1.0 s.regs.1.0 (λ call y. refl)
           ∙ ap (λ call'. A.allocate_served call' (area_place area) is.signature 0 0 (pointer_place is.pointer))
           (call_is w code q m z.among.image)
-          ∙ full_answer members leaves area is.signature (pointer_place is.pointer) m (asks_of z small' b (g b) (reached_holds r1 b)) at none;
+          ∙ full_answer members leaves area is.signature (pointer_place is.pointer) m (asks_of z small' b (g b)
+          (reached_holds r1 b)) at none;
     } in
     let r2 = call_done (c + size_of asks) g v v (λ b. (g b).machine.memory) (λ b. area_place area) (λ b. area_code)
     (λ b y. Known (point_ground w q h) v numbers (λ j. 0) (λ b'. (11, area_code) ∷ []) b y) (omega arith) calling

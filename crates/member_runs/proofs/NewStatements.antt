@@ -51,7 +51,8 @@ area_stands {x = x} is o =
 -- whether it has a gap or not
 placing_by :
     (k : Block) (labels : List Label) (n p x : Spot) (members : List Y.Member) (leaves : List Y.Leaf)
-    (line index left' most : ℕ) (h : IsAllocation k labels n p x members leaves line index most) (acts wanted debt i : ℕ) (q : Point) (numbers : ℕ → ℕ)
+    (line index left' most : ℕ) (h : IsAllocation k labels n p x members leaves line index most) (acts wanted debt i :
+    ℕ) (q : Point) (numbers : ℕ → ℕ)
     (o : IsAmong k numbers q) (j : ℕ) (f : Family) → acts ≤ q.state.world.acts → q.control.line ≡ line →
     size_of (whole_code h.structure h.area) ≤ wanted + debt →
     size_of (whole_code h.structure h.area) + 18 < cost k.call.code → j + size_of (whole_code h.structure h.area) ≡ i →
@@ -65,7 +66,8 @@ placing_by :
     k.call.surroundings.acts (set_locator (at_line k.around line) p h.area.known.serial))
     (P.placing (suc h.turns) (at_line k.around line) h.area.known.serial (new_structure members leaves)
     k.call.surroundings.acts q.state)
-placing_by k labels n p x members leaves line index left' most h acts wanted debt i q numbers o j f since same paid afford end l
+placing_by k labels n p x members leaves line index left' most h acts wanted debt i q numbers o j f since same paid
+    afford end l
     there a at None none =
     let w = k.call.surroundings in
     let g = new_structure members leaves in
@@ -87,14 +89,18 @@ placing_by k labels n p x members leaves line index left' most h acts wanted deb
     } in
     subst (λ flow. Comes code 0 f (services_of q)
     (before code (before code owed w.acts (no_more around')) w.acts (set_locator around' p serial)) flow)
-    (sym (placing_full g around' h.turns serial w.acts (record { capacity = h.area.capacity; placed = at.living.placed })
+    (sym (placing_full g around' h.turns serial w.acts (record {
+      capacity = h.area.capacity;
+      placed = at.living.placed;
+    })
     q.state at.some at.area none))
     (comes_on w.acts (R.raised around' C.Area area_code w.acts q.state) again
     (full_comes closed z at around' h.ends.routines (
       subst (λ xs. IsSystem (Q.force xs C.Area)) (sym o.later.activations) h.full,
       subst (λ xs. IsSystem (Q.force xs C.Error)) (sym o.later.activations) h.ends.error,
     ) none 0 f (omega (arith, afford), h.ends.acts) same l there))
-placing_by k labels n p x members leaves line index left' most h acts wanted debt i q numbers o j f since same paid afford end l
+placing_by k labels n p x members leaves line index left' most h acts wanted debt i q numbers o j f since same paid
+    afford end l
     there a at (Some offset) free =
     let w = k.call.surroundings in
     let g = new_structure members leaves in
@@ -135,7 +141,8 @@ placing_by k labels n p x members leaves line index left' most h acts wanted deb
 
 pub allocate_does :
     (k : Block) (labels : List Label) (n p x : Spot) (members : List Y.Member) (leaves : List Y.Leaf)
-    (line index left' most : ℕ) → IsAllocation k labels n p x members leaves line index most → Does k labels (allocation n p x line) index left'
+    (line index left' most : ℕ) → IsAllocation k labels n p x members leaves line index most → Does k labels
+    (allocation n p x line) index left'
 unfolding M.statement ◌>>◌
 allocate_does k labels n p x members leaves line index left' most h q numbers c wanted f o paid there =
     let w = k.call.surroundings in
@@ -147,7 +154,8 @@ allocate_does k labels n p x members leaves line index left' most h q numbers c 
     let one = act_code line in
     let is = h.structure in
     let whole' = whole_code is h.area in
-    let coded = allocation_coded e n p x members leaves line is.signature h.new is.pointer.known.declared is.declared is.table
+    let coded = allocation_coded e n p x members leaves line is.signature h.new is.pointer.known.declared is.declared
+    is.table
     is.pointer.own h.area.own
     ∙ ap (λ u. one ++ u) (split_whole is h.area) in
     let n0 = size_append one whole' in
@@ -171,7 +179,8 @@ allocate_does k labels n p x members leaves line index left' most h q numbers c 
     let area = area_lives x h.area o' in
     let serial = h.area.known.serial in
     subst (λ flow. Comes code 0 g' (services_of q') owed flow)
-    (sym (allocations_are around' n p x members leaves h.area.declared serial w.acts q'.state is.meant (area_stands h.area o')))
+    (sym (allocations_are around' n p x members leaves h.area.declared serial w.acts q'.state is.meant (area_stands
+    h.area o')))
     (comes_on w.acts
     (flow_on w.acts (P.placing around'.turns around' serial g w.acts q'.state) (set_locator around' p serial))
     (no_more around')
@@ -179,7 +188,8 @@ allocate_does k labels n p x members leaves line index left' most h q numbers c 
     (subst (λ turns. Comes code 0 g' (services_of q')
     (before code (before code owed w.acts (no_more around')) w.acts (set_locator around' p serial))
     (P.placing turns around' serial g w.acts q'.state)) (sym h.some)
-    (placing_by k labels n p x members leaves line index left' most h acts wanted debt (index + size_in k stmt) q' numbers o'
+    (placing_by k labels n p x members leaves line index left' most h acts wanted debt (index + size_in k stmt) q'
+    numbers o'
     (index + size_of one) g' (omega arith) refl (omega arith) (omega (arith, most', n0, n1)) (omega (arith, n0, n1))
     (back_of one whole' l) at' a area
     (gap h.area.capacity (footprint_of g) area.living.placed) refl)))))))

@@ -1,20 +1,19 @@
 -- A name waits in the four words below the running frame, in which nothing else does.
-use Rattle.std.proofs.Common.{◌≡◌, ◌⊎◌, inl, inr, ℕ, zero, suc, ◌+◌, ◌-◌, ◌*◌, ◌%◌, ◌^◌, ◌<◌, ◌≤◌, List, [], ◌∷◌, length}
+use Rattle.std.proofs.Common.{◌≡◌, inl, ℕ, zero, suc, ◌+◌, ◌-◌, ◌*◌, ◌^◌, ◌<◌, ◌≤◌, List, [], ◌∷◌, length}
 use Rattle.std.proofs.Common.{None, refl, sym, ap, ◌∙◌, subst, arith, ⊎_elim}
 use Rattle.std.proofs.lemmas.Bool.{cases_lt}
 use Rattle.std.proofs.lemmas.Int.{ints}
 use Rattle.std.specs.Prelude.{negsuc, pos}
 use Rattle.rv_meaning.specs.Machine.{memory_size}
 use Rattle.rv_meaning.specs.Memory.{load, store}
-use Rattle.rv_meaning.specs.Words.{sum, word}
-use Rattle.rv_meaning.proofs.MemoryLaws.{length-store, load-store_other, load-store_same}
+use Rattle.rv_meaning.proofs.MemoryLaws.{load-store_other, load-store_same}
 use Rattle.pli_meaning.specs.BasicValues.{Name}
 use Rattle.pli_meaning.specs.StorageState.{Activation}
 use Rattle.pli_coding.specs.Assembly.{Code, size_of}
 use Rattle.pli_coding.specs.Instructions.{load_word, store_word}
 use Rattle.pli_coding.specs.Locating.{Address, in_own_frame, name_copied, place_behind, word_copied}
 use Rattle.pli_coding.specs.Registers.{frame_register, u1}
-use Rattle.storage_relation.specs.Stored.{Beside, IsBeside, IsClear}
+use Rattle.storage_relation.specs.Stored.{IsBeside, IsClear}
 use Rattle.storage_relation.proofs.NameWords.{name_words}
 use Rattle.activation_relation.specs.Frames.{AreLaid, FramesStand, Stores, frame_bytes, frame_start, frame_under}
 use Rattle.activation_relation.specs.Frames.{stored}
@@ -216,7 +215,8 @@ waiting_word {k} {y} {p} {numbers} z n c i f less l there =
     let r1 = load_piece {g = more_ground w p (WordsTold n a at) h} {rs = nothing} c f u1
     (pos (name_at_place k.environment y + 4 * n)) (pointer_place z.is + 4 * n) (λ b. word_of a n)
     (place_in z.is z.among z.at.even n less)
-    (λ b m u. word_told a (pointer_place z.is) m (name_words a (pointer_place z.is) m (z.at.tells m u.0.storage)) n less)
+    (λ b m u. word_told a (pointer_place z.is) m (name_words a (pointer_place z.is) m (z.at.tells m u.0.storage)) n
+    less)
     (record { reserved_stay = λ x v. refl; known_stay = λ b x v u. u; set = λ x v. refl })
     (record { reserved_stay = λ x v. refl; known_stay = λ b x v u. u; set = λ x v. refl })
     (front_of first last l) there in

@@ -24,7 +24,8 @@ pub record IsUninitialized (members : List Y.Member) (leaves : List Y.Leaf) : Ty
 
 -- where it stands. Two words of the frame, in which nothing waits, hold what service 10 is given. No unit is in force
 -- for AREA, so it ends the run where the area has no gap.
-pub record IsAllocation (k : Block) (labels : List Label) (n p x : Spot) (members : List Y.Member) (leaves : List Y.Leaf)
+pub record IsAllocation (k : Block) (labels : List Label) (n p x : Spot) (members : List Y.Member) (leaves : List
+    Y.Leaf)
     (line index most : ℕ) : Type 0
   where
     pub act : HasAct k line

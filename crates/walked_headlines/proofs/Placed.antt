@@ -20,7 +20,8 @@ use Rattle.program_runs.specs.Starts.{start_of}
 use Rattle.test_runs.proofs.Chosen.{past}
 use Rattle.walked_headlines.specs.Rows.{made_2, made_3, made_4, made_5, made_turns, seen_2, seen_turns, walk_2, walk_3}
 use Rattle.walked_headlines.specs.Rows.{walk_4, walk_5, walk_allocate, walk_back, walk_count, walk_entry}
-use Rattle.walked_headlines.specs.Rows.{walk_environment, walk_few, walk_head, walk_link, walk_main, walk_make, walk_null}
+use Rattle.walked_headlines.specs.Rows.{walk_environment, walk_few, walk_head, walk_link, walk_main, walk_make}
+use Rattle.walked_headlines.specs.Rows.{walk_null}
 use Rattle.walked_headlines.specs.Rows.{walk_on, walk_program, walk_see, walk_some, walk_value, walk_write, walk_zero}
 
 abbrev pub walk_code : Code

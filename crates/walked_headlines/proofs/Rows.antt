@@ -1,5 +1,5 @@
 -- The worked row: all that is premised of the program is computed.
-use Rattle.std.proofs.Common.{◌≡◌, ℕ, ◌+◌, ◌^◌, ◌<◌, ◌≤◌, List, [], ◌∷◌, inl, inr, length, map, true, false}
+use Rattle.std.proofs.Common.{ℕ, ◌+◌, ◌^◌, ◌<◌, ◌≤◌, List, [], ◌∷◌, inl, inr, length, map, false}
 use Rattle.std.proofs.Common.{refl, arith}
 use Rattle.pli_language.specs.Formats as L
 use Rattle.pli_typing.specs.TypedTree as Y
@@ -108,8 +108,51 @@ walk_whole input acts =
 
 all_differ : AllDiffer (map template_of (table_of walk_program))
 all_differ =
-    table_differs (table_of walk_program) (table_once walk_program)
-    (record { headed = refl; leaved = (record { sized = refl; few = omega arith; bounded = tt; placed = refl }, tt) }, (tt, tt), (record { headed = refl; leaved = (record { sized = refl; few = omega arith; bounded = tt; placed = refl }, tt) }, (tt, tt), (record { headed = refl; leaved = (record { sized = refl; few = omega arith; bounded = tt; placed = refl }, (record { sized = refl; few = omega arith; bounded = tt; placed = refl }, tt)) }, (tt, (tt, tt)), (record { headed = refl; leaved = (record { sized = refl; few = omega arith; bounded = tt; placed = refl }, tt) }, (tt, tt), tt))))
+    table_differs (table_of walk_program) (table_once walk_program) (
+      record { headed = refl; leaved = (record { sized = refl; few = omega arith; bounded = tt; placed = refl }, tt) },
+      (tt, tt),
+      (
+        record {
+          headed = refl;
+          leaved = (
+            record {
+              sized = refl;
+              few = omega arith;
+              bounded = tt;
+              placed = refl;
+            },
+            tt,
+          );
+        },
+        (tt, tt),
+        (
+          record {
+            headed = refl;
+            leaved = (
+              record {
+                sized = refl;
+                few = omega arith;
+                bounded = tt;
+                placed = refl;
+              },
+              (record { sized = refl; few = omega arith; bounded = tt; placed = refl }, tt),
+            );
+          },
+          (tt, (tt, tt)),
+          (
+            record {
+              headed = refl;
+              leaved = (
+                record { sized = refl; few = omega arith; bounded = tt; placed = refl },
+                tt,
+              );
+            },
+            (tt, tt),
+            tt,
+          ),
+        ),
+      ),
+    )
 
 -- ---- its variables
 
@@ -497,8 +540,7 @@ make_does input acts few b =
           ),
         ),
       );
-    })
-    (
+    }) (
       count_does input acts few b,
       (
         allocate_does k [] node_spot pointer_spot area_spot node_members node_leaves 7 allocate_index left_over 100
@@ -637,8 +679,7 @@ see_does input acts few b =
       begun = b;
       turns = omega arith;
       marked = (λ label e. absurd (cc e), (λ label e. absurd (cc e), λ label e. absurd (cc e)));
-    })
-    (
+    }) (
       put_does 0 k [] walk_put write_index left_over 0 100 (put_is input acts few b)
           (((λ place. written_does input acts place few b), tt), tt),
       (
@@ -664,7 +705,8 @@ walk_each input acts few b =
           }),
       (
         number_does k [] number_spot (Y.NumberConstant 0) 4 zero_index left_over 0 100
-            (number_assigned input acts 4 zero_index 0 (Y.NumberConstant 0) few b (omega arith) (omega arith) zero_linked
+            (number_assigned input acts 4 zero_index 0 (Y.NumberConstant 0) few b (omega arith) (omega arith)
+            zero_linked
             (omega (arith, n)))
             (constant_does (setting input acts 4) 0 (omega arith)),
         (
