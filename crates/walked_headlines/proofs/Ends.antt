@@ -22,7 +22,8 @@ unfolding V.number V.bit V.designated V.located V.numbers V.variable_designated 
 values = tt
 
 unfoldable placings : Unit {0}
-unfolding P.allocations P.allocation P.based_allocated P.area_or_heap P.placing P.locator_set
+unfolding P.allocations P.allocation P.based_allocated P.area_or_heap P.placing P.locator_set P.freeings P.freeing
+    P.based_freed P.area_if P.name_freed
 placings = tt
 
 unfoldable makings : Unit {0}
@@ -39,9 +40,9 @@ statements = tt
 
 pub walk_ends :
     (input : List ℕ) →
-    M.meaning walk_program input 39
+    M.meaning walk_program input 45
     ≡ Some (record {
-      acts = 39;
+      acts = 45;
       output = 32 ∷ 32 ∷ 54 ∷ 32 ∷ 32 ∷ 52 ∷ 32 ∷ 32 ∷ 50 ∷ 10 ∷ [];
       raised = [];
       end = E.Finished;

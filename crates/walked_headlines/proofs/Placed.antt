@@ -18,6 +18,7 @@ use Rattle.program_places.proofs.Marks.{named_has}
 use Rattle.program_runs.specs.Procedures.{begin_of, end_of, procedure_code}
 use Rattle.program_runs.specs.Starts.{start_of}
 use Rattle.test_runs.proofs.Chosen.{past}
+use Rattle.walked_headlines.specs.Rows.{seen_3, seen_4, walk_free, walk_next_head}
 use Rattle.walked_headlines.specs.Rows.{made_2, made_3, made_4, made_5, made_turns, seen_2, seen_turns, walk_2, walk_3}
 use Rattle.walked_headlines.specs.Rows.{walk_4, walk_5, walk_allocate, walk_back, walk_count, walk_entry}
 use Rattle.walked_headlines.specs.Rows.{walk_environment, walk_few, walk_head, walk_link, walk_main, walk_make}
@@ -186,8 +187,14 @@ head_linked = front_of (coded walk_head) [] (back_of (coded walk_link) (listed m
 abbrev pub write_index : ℕ
 write_index = turn_index see_index 13 walk_some
 
+abbrev pub next_index : ℕ
+next_index = write_index + size_of (coded walk_write)
+
+abbrev pub free_index : ℕ
+free_index = next_index + size_of (coded walk_next_head)
+
 abbrev pub on_index : ℕ
-on_index = write_index + size_of (coded walk_write)
+on_index = free_index + size_of (coded walk_free)
 
 seen_linked : StandsAt write_index (listed seen_turns)
 seen_linked = turns_linked see_index 13 walk_some seen_turns see_linked
@@ -195,5 +202,17 @@ seen_linked = turns_linked see_index 13 walk_some seen_turns see_linked
 pub write_linked : StandsAt write_index (coded walk_write)
 write_linked = front_of (coded walk_write) (listed seen_2) seen_linked
 
+seen_linked_2 : StandsAt next_index (listed seen_2)
+seen_linked_2 = back_of (coded walk_write) (listed seen_2) seen_linked
+
+pub next_linked : StandsAt next_index (coded walk_next_head)
+next_linked = front_of (coded walk_next_head) (listed seen_3) seen_linked_2
+
+seen_linked_3 : StandsAt free_index (listed seen_3)
+seen_linked_3 = back_of (coded walk_next_head) (listed seen_3) seen_linked_2
+
+pub free_linked : StandsAt free_index (coded walk_free)
+free_linked = front_of (coded walk_free) (listed seen_4) seen_linked_3
+
 pub on_linked : StandsAt on_index (coded walk_on)
-on_linked = front_of (coded walk_on) [] (back_of (coded walk_write) (listed seen_2) seen_linked)
+on_linked = front_of (coded walk_on) [] (back_of (coded walk_free) (listed seen_4) seen_linked_3)

@@ -55,6 +55,7 @@ use Rattle.edit_headlines.proofs.Formats.{list_placed}
 use Rattle.locator_runs.specs.Pointers.{IsPointer}
 use Rattle.locator_runs.proofs.PointerAssignments.{copy_does, null_does}
 use Rattle.locator_runs.proofs.PointerTests.{null_tests}
+use Rattle.member_freeings.proofs.Freeing.{free_does}
 use Rattle.member_runs.specs.Allocations as W
 use Rattle.member_runs.specs.MemberAssignments as B
 use Rattle.member_runs.specs.MemberPointers.{IsFollowing, IsLinking}
@@ -70,8 +71,9 @@ use Rattle.block_headlines.proofs.VariableRuns.{fits}
 use Rattle.walked_headlines.specs.Rows.{area_declared, area_made, area_spot, head_made, head_spot, made_turns}
 use Rattle.walked_headlines.specs.Rows.{next_member, node_leaves, node_members, node_spot, number_made, number_spot}
 use Rattle.walked_headlines.specs.Rows.{pointer_made, pointer_spot, seen_turns, value_member, walk_body, walk_entry}
-use Rattle.walked_headlines.specs.Rows.{walk_environment, walk_few, walk_formats, walk_main, walk_make, walk_next}
+use Rattle.walked_headlines.specs.Rows.{walk_environment, walk_few, walk_formats, walk_main, walk_make, walk_sum}
 use Rattle.walked_headlines.specs.Rows.{walk_program, walk_put, walk_see, walk_some, walk_twice}
+use Rattle.walked_headlines.proofs.Placed.{free_index, free_linked, next_index, next_linked}
 use Rattle.walked_headlines.proofs.Placed.{StandsAt, allocate_index, allocate_linked, back_index, back_linked, coded}
 use Rattle.walked_headlines.proofs.Placed.{count_index, count_linked, head_index, head_linked, link_index, link_linked}
 use Rattle.walked_headlines.proofs.Placed.{main_linked, make_index, make_linked, null_linked, on_index, on_linked}
@@ -431,12 +433,12 @@ number_assigned input acts line index need source few b low one l paid =
 
 count_does :
     (input : List ℕ) (acts : ℕ) → acts + 1 < 2 ^ 64 → IsBegun (walk_block input acts) →
-    Does (walk_block input acts) [] (N.assignment number_spot walk_next 6) count_index left_over
+    Does (walk_block input acts) [] (N.assignment number_spot walk_sum 6) count_index left_over
 count_does input acts few b =
     let n = linked_length (links_of walk_code) 0 walk_code in
     let k = setting input acts 6 in
-    number_does (walk_block input acts) [] number_spot walk_next 6 count_index left_over 1 100
-    (number_assigned input acts 6 count_index 1 walk_next few b (omega arith) (omega arith) count_linked
+    number_does (walk_block input acts) [] number_spot walk_sum 6 count_index left_over 1 100
+    (number_assigned input acts 6 count_index 1 walk_sum few b (omega arith) (omega arith) count_linked
     (omega (arith, n)))
     (sum_does k (Y.NumberIn (whole number_spot)) (Y.NumberConstant 1) 0 0 (overflows input acts 6 few)
     (variable_does k number_spot b (number_is input acts b)) (constant_does k 1 (omega arith)))
@@ -644,19 +646,19 @@ put_is input acts few b =
       paid = omega (arith, n);
     }
 
-on_is :
+next_head_is :
     (input : List ℕ) (acts : ℕ) → acts + 1 < 2 ^ 64 → IsBegun (walk_block input acts) →
-    IsFollowing (walk_block input acts) [] pointer_spot pointer_spot node_spot node_members node_leaves next_member 15
-    on_index 100
-on_is input acts few b =
+    IsFollowing (walk_block input acts) [] head_spot pointer_spot node_spot node_members node_leaves next_member 15
+    next_index 100
+next_head_is input acts few b =
     let n = linked_length (links_of walk_code) 0 walk_code in
     record {
       act = record { line_fits = omega arith; acts = few };
-      target = pointer_is input acts b;
+      target = head_is input acts b;
       structure = is_structure input acts b;
       own = next_is;
       ends = ends input acts 15 few;
-      statement = on_linked;
+      statement = next_linked;
       paid = omega (arith, n);
     }
 
@@ -678,14 +680,34 @@ see_does input acts few b =
     (record {
       begun = b;
       turns = omega arith;
-      marked = (λ label e. absurd (cc e), (λ label e. absurd (cc e), λ label e. absurd (cc e)));
+      marked = (
+        λ label e. absurd (cc e),
+        (λ label e. absurd (cc e), (λ label e. absurd (cc e), (λ label e. absurd (cc e), λ label e. absurd (cc e)))),
+      );
     }) (
       put_does 0 k [] walk_put write_index left_over 0 100 (put_is input acts few b)
           (((λ place. written_does input acts place few b), tt), tt),
       (
-        follow_does k [] pointer_spot pointer_spot node_spot node_members node_leaves next_member 15 on_index left_over
-            100 (on_is input acts few b),
-        tt,
+        follow_does k [] head_spot pointer_spot node_spot node_members node_leaves next_member 15 next_index left_over
+            100 (next_head_is input acts few b),
+        (
+          free_does k [] pointer_spot node_spot node_members node_leaves 16 free_index left_over 100
+              (record {
+                act = record { line_fits = omega arith; acts = few };
+                structure = is_structure input acts b;
+                ends = ends input acts 16 few;
+                statement = free_linked;
+              }),
+          (
+            copy_does k [] pointer_spot head_spot 17 on_index left_over
+                (record {
+                  act = record { line_fits = omega arith; acts = few };
+                  pointer = pointer_is input acts b;
+                  statement = on_linked;
+                }) (head_is input acts b),
+            tt,
+          ),
+        ),
       ),
     )
 

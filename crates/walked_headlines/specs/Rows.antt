@@ -1,4 +1,5 @@
--- A worked row: a main procedure that links three structures in an area to a list, walks it, and writes what each has.
+-- A worked row: a main procedure that links three structures in an area to a list, walks it, writes what each
+-- has, and frees it.
 use Rattle.std.specs.Prelude.{ℕ, ◌≡◌, ◌+◌, List, [], ◌∷◌, pos, None, Some, false}
 use Rattle.pli_language.specs.Tree as T
 use Rattle.pli_typing.specs.TypedTree as Y
@@ -20,6 +21,7 @@ use Rattle.expression_runs.specs.Assignments as N
 use Rattle.expression_runs.specs.Variables.{Spot, number_declared, number_leaf, whole}
 use Rattle.area_runs.specs.Allocations.{allocation}
 use Rattle.area_runs.specs.Based.{pointer_declared}
+use Rattle.area_freeings.specs.Freeing.{freeing}
 use Rattle.edit_runs.specs.Edits.{Put, put_of}
 use Rattle.locator_runs.specs.Comparisons.{comparison}
 use Rattle.locator_runs.specs.Pointers as A
@@ -42,7 +44,9 @@ use Rattle.member_runs.specs.Members.{member_of, structure_declared}
 -- P = H;
 -- DO WHILE (P ^= NULL());
 --   PUT EDIT (P->V) (F(3));
---   P = P->NX;
+--   H = P->NX;
+--   FREE P->N;
+--   P = H;
 -- END;
 
 abbrev pub area_spot : Spot
@@ -96,11 +100,11 @@ walk_zero = N.assignment number_spot (Y.NumberConstant 0) 4
 abbrev pub walk_few : Y.Bit
 walk_few = Y.NumbersCompared Y.IsLess (Y.NumberIn (whole number_spot)) (Y.NumberConstant 3)
 
-abbrev pub walk_next : Y.Number
-walk_next = Y.Calculated Y.Sum (Y.NumberIn (whole number_spot)) (Y.NumberConstant 1)
+abbrev pub walk_sum : Y.Number
+walk_sum = Y.Calculated Y.Sum (Y.NumberIn (whole number_spot)) (Y.NumberConstant 1)
 
 abbrev pub walk_count : Y.Stmt
-walk_count = N.assignment number_spot walk_next 6
+walk_count = N.assignment number_spot walk_sum 6
 
 abbrev pub walk_allocate : Y.Stmt
 walk_allocate = allocation node_spot pointer_spot area_spot 7
@@ -160,11 +164,23 @@ walk_put =
 abbrev pub walk_write : Y.Stmt
 walk_write = put_of walk_put
 
+abbrev pub walk_next_head : Y.Stmt
+walk_next_head = following head_spot pointer_spot node_spot next_member 15
+
+abbrev pub walk_free : Y.Stmt
+walk_free = freeing pointer_spot node_spot 16
+
 abbrev pub walk_on : Y.Stmt
-walk_on = following pointer_spot pointer_spot node_spot next_member 15
+walk_on = A.assignment pointer_spot (Y.PointerIn (whole head_spot)) 17
+
+abbrev pub seen_4 : Y.Stmts
+seen_4 = Y.StmtThen [] walk_on (Y.EndOfList [])
+
+abbrev pub seen_3 : Y.Stmts
+seen_3 = Y.StmtThen [] walk_free seen_4
 
 abbrev pub seen_2 : Y.Stmts
-seen_2 = Y.StmtThen [] walk_on (Y.EndOfList [])
+seen_2 = Y.StmtThen [] walk_next_head seen_3
 
 abbrev pub seen_turns : Y.Stmts
 seen_turns = Y.StmtThen [] walk_write seen_2
@@ -237,9 +253,9 @@ pub record WalkedKept : Type 0 where
   -- the structure that was linked last is met first
   pub ends :
       (input : List ℕ) →
-      meaning walk_program input 39
+      meaning walk_program input 45
       ≡ Some (record {
-        acts = 39;
+        acts = 45;
         output = 32 ∷ 32 ∷ 54 ∷ 32 ∷ 32 ∷ 52 ∷ 32 ∷ 32 ∷ 50 ∷ 10 ∷ [];
         raised = [];
         end = E.Finished;
