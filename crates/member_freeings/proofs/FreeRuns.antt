@@ -67,10 +67,10 @@ use Rattle.member_runs.specs.Members.{IsStructure, structure_shape}
 pub record Given (k : Block) (p n : Spot) (members : List Y.Member) (leaves : List Y.Leaf) (q : Point)
     (numbers : ℕ → ℕ) : Type 0
   where
-  pub is : IsStructure k p n members leaves
-  pub among : IsAmong k numbers q
-  pub points : PointerAt k p is.pointer q
-  pub small : 4 * length k.call.code ≤ 2 ^ 22
+    pub is : IsStructure k p n members leaves
+    pub among : IsAmong k numbers q
+    pub points : PointerAt k p is.pointer q
+    pub small : 4 * length k.call.code ≤ 2 ^ 22
 
 abbrev pub whole_code : {k : Block} {p n : Spot} {members : List Y.Member} {leaves : List Y.Leaf} →
     IsStructure k p n members leaves → Code

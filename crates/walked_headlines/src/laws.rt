@@ -4,7 +4,7 @@ ghost use Rattle.walked_headlines.specs.Rows.{WalkedKept};
 
 use block_headlines::laws::headlines_kept;
 
-/// A worked row: three structures in an area are linked, and the list is walked and written.
+/// A worked row: three structures in an area are linked, and the list is walked, written and freed.
 pub fn walked_kept()
     ensures { WalkedKept }
 {
