@@ -1,16 +1,16 @@
 -- What service 11 answers.
-use Rattle.std.proofs.Common.{◌≡◌, ℕ, ◌+◌, ◌<◌, ◌≤◌, List, [], length, Option, None, Some, Bool, true, false, refl, sym}
+use Rattle.std.proofs.Common.{◌≡◌, ℕ, ◌+◌, List, length, Option, None, Some, Bool, true, false, sym}
 use Rattle.std.proofs.Common.{ap, ◌∙◌, subst, arith}
-use Rattle.std.specs.Prelude.{cond, ◌==◌, is_some, slice_get}
-use Rattle.pli_meaning.specs.BasicValues.{BasedName, Name, VariableName}
-use Rattle.pli_meaning.specs.Codes.{no_generation_code, not_in_area_code}
-use Rattle.pli_meaning.specs.Contents.{Generation, Placed, Shape, same_shape, without_offset}
+use Rattle.std.specs.Prelude.{cond}
+use Rattle.pli_meaning.specs.BasicValues.{BasedName, VariableName}
+use Rattle.pli_meaning.specs.Codes.{not_in_area_code}
+use Rattle.pli_meaning.specs.Contents.{Generation, Shape, same_shape, without_offset}
 use Rattle.pli_meaning.specs.StorageState as M
 use Rattle.pli_meaning.specs.StorageState.{AreaContents, area_at}
 use Rattle.area_keeper.specs.KeptAreas.{with_part}
 use Rattle.area_keeper.proofs.Agreement.{length_part}
 use Rattle.pli_serving.specs.AreaServices as A
-use Rattle.pli_serving.specs.Answers.{Answer, Done}
+use Rattle.pli_serving.specs.Answers.{Done}
 use Rattle.pli_serving.specs.Arguments.{area_if, asked, name_in, where_found}
 use Rattle.pli_serving.specs.Finding as F
 use Rattle.pli_serving.specs.Finding.{FoundAt}
@@ -21,7 +21,7 @@ use Rattle.storage_relation.specs.Standing.{AreaOf, AreaStands}
 use Rattle.storage_relation.specs.Stored.{IsBeside, slice}
 use Rattle.storage_relation.proofs.Answering.{number_same}
 use Rattle.storage_relation.proofs.AreaLaws as L
-use Rattle.storage_relation.proofs.CallArguments.{asked_is, no_area_given, number_there}
+use Rattle.storage_relation.proofs.CallArguments.{asked_is}
 use Rattle.storage_relation.proofs.Calls.{area_holds}
 use Rattle.storage_relation.proofs.Confined.{beside_written}
 use Rattle.storage_relation.proofs.Finding.{area_served, named_found}

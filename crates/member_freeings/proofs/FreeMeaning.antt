@@ -1,11 +1,11 @@
 -- What FREE of a structure by way of a pointer variable means.
 use Rattle.std.proofs.Common.{◌≡◌, ℕ, [], ◌∷◌, Some, None, Option, refl, sym, ap, ◌∙◌}
 use Rattle.pli_typing.specs.TypedTree as Y
-use Rattle.pli_meaning.specs.BasicValues.{BasedName, Name, NullName, VariableName}
+use Rattle.pli_meaning.specs.BasicValues.{BasedName, Name, VariableName}
 use Rattle.pli_meaning.specs.Codes.{no_generation_code, not_in_area_code}
 use Rattle.pli_meaning.specs.Contents.{Generation, without_offset}
-use Rattle.pli_meaning.specs.Control.{Flow, Meaning, Normal, flow_on, give, given, looked, stored, stuck, ◌>>=◌, ◌>>◌}
-use Rattle.pli_meaning.specs.DeclaredShapes.{declared_variable, shape_of}
+use Rattle.pli_meaning.specs.Control.{Meaning, Normal, flow_on, give, given, looked, stored, stuck, ◌>>=◌, ◌>>◌}
+use Rattle.pli_meaning.specs.DeclaredShapes.{declared_variable}
 use Rattle.pli_meaning.specs.Evaluating as V
 use Rattle.pli_meaning.specs.Contents.{name_in}
 use Rattle.pli_meaning.specs.Placing as P
@@ -41,9 +41,11 @@ free_means around {s} {p} n members leaves k h declared =
     ap (λ o. flow_on k (given o (λ d. P.based_freed around d (Y.PointerIn (whole p)) None) stuck k s) (no_more
     around)) declared
     ∙ ap (λ q. flow_on k (flow_on k (flow_on k q (λ d. give (name_in (V.value_in d))))
-    (λ m. looked >>= (λ t. found_by around m (named t m (structure_shape members leaves))))) (no_more around)) (pointer_designated around k
+    (λ m. looked >>= (λ t. found_by around m (named t m (structure_shape members leaves))))) (no_more around))
+    (pointer_designated around k
     h)
-    ∙ ap (λ v. flow_on k (found_by around (name_in v) (named s (name_in v) (structure_shape members leaves)) k s) (no_more around)) h.value
+    ∙ ap (λ v. flow_on k (found_by around (name_in v) (named s (name_in v) (structure_shape members leaves)) k s)
+    (no_more around)) h.value
 
 -- where it lives in an area, or in the heap
 pub freed_is :

@@ -1,8 +1,8 @@
 -- The point behind FREE: an area, or the heap, has one generation less.
-use Rattle.std.proofs.Common.{◌≡◌, ℕ, List, [], Bool, true, false, refl, sym, ap, ◌∙◌, subst}
+use Rattle.std.proofs.Common.{◌≡◌, ℕ, List, [], Bool, true, false, refl, sym, subst}
 use Rattle.std.specs.Prelude.{cond, ◌==◌}
-use Rattle.pli_meaning.specs.Contents.{Placed, without_offset}
-use Rattle.pli_meaning.specs.StorageState.{Activation, State, area_changed, heap_serial, living_changed, with_area}
+use Rattle.pli_meaning.specs.Contents.{without_offset}
+use Rattle.pli_meaning.specs.StorageState.{State, area_changed, heap_serial, living_changed, with_area}
 use Rattle.storage_relation.specs.Standing.{AreaOf}
 use Rattle.storage_relation.proofs.Calls.{served_area}
 use Rattle.storage_relation.proofs.Named.{area_holder}

@@ -1,5 +1,5 @@
 -- The code of FREE of a structure: what service 11 is given, what it answers, and the test of its status.
-use Rattle.std.proofs.Common.{◌≡◌, ℕ, ◌+◌, ◌*◌, ◌^◌, ◌<◌, ◌≤◌, length, List, [], ◌∷◌, ◌++◌, None, Some, Bool, false}
+use Rattle.std.proofs.Common.{◌≡◌, ℕ, ◌+◌, ◌*◌, ◌^◌, ◌<◌, ◌≤◌, length, List, [], ◌∷◌, ◌++◌, None, Some, false}
 use Rattle.std.proofs.Common.{true}
 use Rattle.std.proofs.Common.{refl, sym, ap, ◌∙◌, subst, arith}
 use Rattle.std.proofs.lemmas.Bool.{le-leb}
@@ -7,20 +7,19 @@ use Rattle.std.proofs.lemmas.Bool.Decides.{nat_tests}
 use Rattle.std.specs.Prelude.{cond, nat_le, pos, ◌==◌, ◌&&◌}
 use Rattle.rv_meaning.specs.declared.instr.BranchTest.TheVariants as Test
 use Rattle.rv_meaning.specs.declared.instr.Instr.TheVariants as I
-use Rattle.rv_meaning.specs.Machine.{memory_size}
 use Rattle.pli_language.specs.declared.condition.Condition.TheVariants as C
-use Rattle.pli_meaning.specs.BasicValues.{BasedName, Name, VariableName}
+use Rattle.pli_meaning.specs.BasicValues.{BasedName, VariableName}
 use Rattle.pli_meaning.specs.Codes.{no_generation_code, not_in_area_code}
 use Rattle.pli_meaning.specs.Contents.{Generation, without_offset}
 use Rattle.pli_meaning.specs.Raising as R
 use Rattle.pli_meaning.specs.Raising.{Around}
 use Rattle.pli_meaning.specs.StorageState as Q
-use Rattle.pli_serving.specs.Answers.{Answer, Done}
+use Rattle.pli_serving.specs.Answers.{Done}
 use Rattle.pli_serving.specs.AreaServices as A
 use Rattle.pli_serving.specs.Arguments.{name_in}
 use Rattle.pli_serving.specs.Bytes.{name_at}
 use Rattle.pli_coding.specs.Assembly.{Code, JumpTo, Plain, RaiseError, size_of}
-use Rattle.pli_coding.specs.Instructions.{number, skip_where, small, status_tested}
+use Rattle.pli_coding.specs.Instructions.{number, small, status_tested}
 use Rattle.pli_coding.specs.Registers.{a0, a1, a2, a7, zero_register}
 use Rattle.storage_relation.specs.Served.{Holds, IsNumberOf, call}
 use Rattle.storage_relation.proofs.CallArguments.{no_area_given}
@@ -54,12 +53,11 @@ use Rattle.expression_runs.specs.Variables.{Spot}
 use Rattle.area_runs.proofs.BasedCode.{name_at_place}
 use Rattle.area_runs.proofs.BasedReads.{laid_out}
 use Rattle.area_runs.proofs.ChangedPoints.{with_state}
-use Rattle.member_freeings.proofs.FreeAnswers.{Freed, freed_there, variable_stays}
+use Rattle.member_freeings.proofs.FreeAnswers.{freed_there, variable_stays}
 use Rattle.member_freeings.proofs.FreeCode.{freed_code, given_code}
-use Rattle.member_freeings.proofs.FreePoints.{freed_point, freed_services, freed_stands}
+use Rattle.member_freeings.proofs.FreePoints.{freed_stands}
 use Rattle.pli_typing.specs.TypedTree as Y
 use Rattle.area_runs.specs.Based.{Ends}
-use Rattle.area_runs.proofs.BasedPoints.{IsLaidOut}
 use Rattle.locator_runs.proofs.PointerPoints.{PointerAt, own_base, pointer_place}
 use Rattle.member_runs.specs.Members.{IsStructure, structure_shape}
 
@@ -86,7 +84,8 @@ abbrev given_regs : (name signature : ℕ) → Base → List (ℕ × ℕ)
 given_regs name signature b = (17, 11) ∷ (12, 0) ∷ (11, signature) ∷ (10, name) ∷ []
 
 given_comes :
-    {k : Block} {p n : Spot} {members : List Y.Member} {leaves : List Y.Leaf} {q : Point} {numbers : ℕ → ℕ} {i : ℕ} (z : Given k p n members leaves q numbers) (c : ℕ) (f : Family) →
+    {k : Block} {p n : Spot} {members : List Y.Member} {leaves : List Y.Leaf} {q : Point} {numbers : ℕ → ℕ} {i : ℕ} (z
+    : Given k p n members leaves q numbers) (c : ℕ) (f : Family) →
     Linked k.call.surroundings.links k.call.code i (whole_code z.is) → AreIn k.call.surroundings q numbers i f →
     Reach k.call.code c f (services_of q) (c + size_of (asked_code z.is)) (services_of q)
     (λ b y. At b (i + size_of (asked_code z.is))
@@ -150,7 +149,8 @@ pub record Leaves (w : Surroundings) (q : Point) (s : Q.State) (b : Base) (m : L
 
 -- at each machine there
 abbrev pub AllLeave :
-    {k : Block} {p n : Spot} {members : List Y.Member} {leaves : List Y.Leaf} {q : Point} {numbers : ℕ → ℕ} → Given k p n members leaves q numbers → Q.State → (status : ℕ) → Type 0
+    {k : Block} {p n : Spot} {members : List Y.Member} {leaves : List Y.Leaf} {q : Point} {numbers : ℕ → ℕ} → Given k
+    p n members leaves q numbers → Q.State → (status : ℕ) → Type 0
 AllLeave {k} {q = q} z s status =
     (b : Base) (m : List ℕ) → StandsIn k.call.surroundings q b m →
     Leaves k.call.surroundings q s b m (pointer_place z.is.pointer) z.is.signature status
@@ -172,7 +172,8 @@ rest_linked {k} {p} {i = i} is l =
     (back_of name (num ++ (small a2 0 ∷ small a7 11 ∷ rest)) l)))
 
 called_comes :
-    {k : Block} {p n : Spot} {members : List Y.Member} {leaves : List Y.Leaf} {q : Point} {numbers : ℕ → ℕ} {i : ℕ} (z : Given k p n members leaves q numbers) (s : Q.State)
+    {k : Block} {p n : Spot} {members : List Y.Member} {leaves : List Y.Leaf} {q : Point} {numbers : ℕ → ℕ} {i : ℕ} (z
+    : Given k p n members leaves q numbers) (s : Q.State)
     (status c : ℕ) (f : Family) → AllLeave z s status →
     Linked k.call.surroundings.links k.call.code i (whole_code z.is) → AreIn k.call.surroundings q numbers i f →
     Reach k.call.code c f (services_of q) (c + size_of (asked_code z.is) + 1) (services_of q)
@@ -217,7 +218,8 @@ called_comes {k} {p} {n} {members} {leaves} {q} {numbers} {i} z s status c f goe
 
 -- it was done
 pub done_comes :
-    {k : Block} {p n : Spot} {members : List Y.Member} {leaves : List Y.Leaf} {q : Point} {numbers : ℕ → ℕ} {i : ℕ} (z : Given k p n members leaves q numbers) (s : Q.State) (c : ℕ)
+    {k : Block} {p n : Spot} {members : List Y.Member} {leaves : List Y.Leaf} {q : Point} {numbers : ℕ → ℕ} {i : ℕ} (z
+    : Given k p n members leaves q numbers) (s : Q.State) (c : ℕ)
     (f : Family) → services_of (with_state s q) ≡ services_of q → AllLeave z s 0 →
     Linked k.call.surroundings.links k.call.code i (whole_code z.is) → AreIn k.call.surroundings q numbers i f →
     Reach k.call.code c f (services_of q) (c + size_of (whole_code z.is)) (services_of (with_state s q))
@@ -258,15 +260,18 @@ done_comes {k} {p} {n} {members} {leaves} {q} {numbers} {i} z s c f same goes l 
 
 -- it wasn't, and ERROR comes to what it means
 pub error_ends :
-    {X : Type 0} {k : Setting} {p n : Spot} {members : List Y.Member} {leaves : List Y.Leaf} {q : Point} {numbers : ℕ → ℕ} {i : ℕ} {aims : Aims X}
-    (closed : Closed k.block.call.code aims) (z : Given k.block p n members leaves q numbers) (ends : Ends k) (around : Around)
+    {X : Type 0} {k : Setting} {p n : Spot} {members : List Y.Member} {leaves : List Y.Leaf} {q : Point} {numbers : ℕ
+    → ℕ} {i : ℕ} {aims : Aims X}
+    (closed : Closed k.block.call.code aims) (z : Given k.block p n members leaves q numbers) (ends : Ends k) (around
+    : Around)
     (status c : ℕ) (f : Family) → status < 2 ^ 16 → (status == 0) ≡ false → AllLeave z q.state status →
     q.control.line ≡ around.line → c + size_of (whole_code z.is) + 18 < cost k.block.call.code →
     Linked k.block.call.surroundings.links k.block.call.code i (whole_code z.is) →
     AreIn k.block.call.surroundings q numbers i f →
     Comes k.block.call.code c f (services_of q) aims
     (R.error {R = X} around status k.block.call.surroundings.acts q.state)
-error_ends {k = k'} {p} {n} {members} {leaves} {q} {numbers} {i} closed z ends around status c f fits some goes line paid l there =
+error_ends {k = k'} {p} {n} {members} {leaves} {q} {numbers} {i} closed z ends around status c f fits some goes line
+    paid l there =
     let k = k'.block in
     let h = point_frame z.among.stands z.among.image in
     let name = own_code a0 (name_at_place k.environment p) in
@@ -296,7 +301,8 @@ error_ends {k = k'} {p} {n} {members} {leaves} {q} {numbers} {i} closed z ends a
 
 -- the name is read where it stands
 name_read :
-    {k : Block} {p n : Spot} {members : List Y.Member} {leaves : List Y.Leaf} {q : Point} {numbers : ℕ → ℕ} (z : Given k p n members leaves q numbers) (m : List ℕ) →
+    {k : Block} {p n : Spot} {members : List Y.Member} {leaves : List Y.Leaf} {q : Point} {numbers : ℕ → ℕ} (z : Given
+    k p n members leaves q numbers) (m : List ℕ) →
     Holds (now q m) → name_in (call (now q m)) (pointer_place z.is.pointer) ≡ Some z.points.points.name
 name_read {k} {q = q} z m stored =
     let at = pointer_place z.is.pointer in
@@ -312,7 +318,8 @@ name_read {k} {q = q} z m stored =
     ∙ name_loaded at z.points.points.name m (z.points.tells m stored)
 
 numbered :
-    {k : Block} {p n : Spot} {members : List Y.Member} {leaves : List Y.Leaf} {q : Point} {numbers : ℕ → ℕ} (z : Given k p n members leaves q numbers) (m : List ℕ) →
+    {k : Block} {p n : Spot} {members : List Y.Member} {leaves : List Y.Leaf} {q : Point} {numbers : ℕ → ℕ} (z : Given
+    k p n members leaves q numbers) (m : List ℕ) →
     IsNumberOf (now q m) z.is.signature (structure_shape members leaves)
 numbered {members = members} {leaves} z m =
     record {
@@ -321,11 +328,14 @@ numbered {members = members} {leaves} z m =
     }
 
 pub freed_leaves :
-    {k : Block} {p n : Spot} {members : List Y.Member} {leaves : List Y.Leaf} {q : Point} {numbers : ℕ → ℕ} (z : Given k p n members leaves q numbers) (area o : ℕ) (g : Generation) →
-    z.points.points.name ≡ BasedName area o → Q.named q.state (BasedName area o) (structure_shape members leaves) ≡ Some g →
+    {k : Block} {p n : Spot} {members : List Y.Member} {leaves : List Y.Leaf} {q : Point} {numbers : ℕ → ℕ} (z : Given
+    k p n members leaves q numbers) (area o : ℕ) (g : Generation) →
+    z.points.points.name ≡ BasedName area o → Q.named q.state (BasedName area o) (structure_shape members leaves) ≡
+    Some g →
     AllLeave z (Q.with_area area (without_offset o) q.state) 0
 freed_leaves {k} {members = members} {leaves} {q} z area o g same lives b m stands =
-    let t = freed_there (now q m) stands.storage (pointer_place z.is.pointer) z.is.signature area o (structure_shape members leaves) g (numbered z m)
+    let t = freed_there (now q m) stands.storage (pointer_place z.is.pointer) z.is.signature area o (structure_shape
+    members leaves) g (numbered z m)
     (name_read z m stands.storage ∙ ap (λ u. Some u) same) lives in
     record {
       memory = t.memory;
@@ -335,8 +345,10 @@ freed_leaves {k} {members = members} {leaves} {q} z area o g same lives b m stan
     }
 
 pub variable_leaves :
-    {k : Block} {p n : Spot} {members : List Y.Member} {leaves : List Y.Leaf} {q : Point} {numbers : ℕ → ℕ} (z : Given k p n members leaves q numbers) (serial : ℕ) (g : Generation) →
-    z.points.points.name ≡ VariableName serial → Q.named q.state (VariableName serial) (structure_shape members leaves) ≡ Some g →
+    {k : Block} {p n : Spot} {members : List Y.Member} {leaves : List Y.Leaf} {q : Point} {numbers : ℕ → ℕ} (z : Given
+    k p n members leaves q numbers) (serial : ℕ) (g : Generation) →
+    z.points.points.name ≡ VariableName serial → Q.named q.state (VariableName serial) (structure_shape members
+    leaves) ≡ Some g →
     AllLeave z q.state not_in_area_code
 variable_leaves {members = members} {leaves} {q} z serial g same lives b m stands =
     record {
@@ -344,13 +356,15 @@ variable_leaves {members = members} {leaves} {q} z serial g same lives b m stand
       stands = stands;
       many = refl;
       answered =
-          variable_stays (now q m) stands.storage (pointer_place z.is.pointer) z.is.signature serial (structure_shape members leaves) g (numbered z
+          variable_stays (now q m) stands.storage (pointer_place z.is.pointer) z.is.signature serial (structure_shape
+          members leaves) g (numbered z
           m)
           (name_read z m stands.storage ∙ ap (λ u. Some u) same) lives;
     }
 
 pub missing_leaves :
-    {k : Block} {p n : Spot} {members : List Y.Member} {leaves : List Y.Leaf} {q : Point} {numbers : ℕ → ℕ} (z : Given k p n members leaves q numbers) →
+    {k : Block} {p n : Spot} {members : List Y.Member} {leaves : List Y.Leaf} {q : Point} {numbers : ℕ → ℕ} (z : Given
+    k p n members leaves q numbers) →
     Q.named q.state z.points.points.name (structure_shape members leaves) ≡ None → AllLeave z q.state no_generation_code
 missing_leaves {members = members} {leaves} {q} z none b m stands =
     record {
@@ -358,6 +372,7 @@ missing_leaves {members = members} {leaves} {q} z none b m stands =
       stands = stands;
       many = refl;
       answered =
-          absent_answered (now q m) stands.storage (pointer_place z.is.pointer) z.is.signature 0 z.points.points.name None
+          absent_answered (now q m) stands.storage (pointer_place z.is.pointer) z.is.signature 0 z.points.points.name
+          None
           (structure_shape members leaves) (numbered z m) (name_read z m stands.storage) (no_area_given (now q m)) none;
     }

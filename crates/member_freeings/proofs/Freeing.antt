@@ -1,17 +1,17 @@
 -- FREE of a structure does what it means.
-use Rattle.std.proofs.Common.{◌≡◌, ℕ, ◌+◌, ◌*◌, ◌^◌, ◌<◌, ◌≤◌, List, [], ◌∷◌, ◌++◌, Option, None, Some, length, refl}
+use Rattle.std.proofs.Common.{◌≡◌, ℕ, ◌+◌, ◌<◌, ◌≤◌, List, [], ◌∷◌, Option, None, Some, refl}
 use Rattle.std.proofs.Common.{sym}
 use Rattle.std.proofs.Common.{ap, ◌∙◌, subst, arith}
 use Rattle.rv_meaning.specs.declared.instr.Instr.{Instr}
 use Rattle.pli_meaning.specs.BasicValues.{BasedName, Name, NullName, VariableName}
 use Rattle.pli_meaning.specs.Codes.{no_generation_code, not_in_area_code}
 use Rattle.pli_meaning.specs.Contents.{Generation, without_offset}
-use Rattle.pli_meaning.specs.Control.{Flow, Label, Meaning, Normal, act, flow_on, ◌>>◌}
+use Rattle.pli_meaning.specs.Control.{Flow, Label, Meaning, act, flow_on, ◌>>◌}
 use Rattle.pli_meaning.specs.Executing as M
 use Rattle.pli_meaning.specs.Placing as P
 use Rattle.pli_meaning.specs.Raising as R
 use Rattle.pli_meaning.specs.Raising.{Around, at_line}
-use Rattle.pli_meaning.specs.StorageState.{State, named, with_area}
+use Rattle.pli_meaning.specs.StorageState.{named, with_area}
 use Rattle.pli_meaning.specs.World.{counted}
 use Rattle.pli_coding.specs.Allocating.{act_code}
 use Rattle.pli_coding.specs.Assembly.{size_of}
@@ -22,9 +22,9 @@ use Rattle.run_steps.proofs.Jumps.{back_of, front_of}
 use Rattle.run_steps.proofs.Linking.{size_append}
 use Rattle.run_steps.specs.Owing.{owing}
 use Rattle.run_steps.proofs.Owing.{comes_owing, done_owing, owing_closed}
-use Rattle.run_steps.specs.Reach.{Aims, Comes, Family, Reach, cost}
+use Rattle.run_steps.specs.Reach.{Aims, Comes, Family, cost}
 use Rattle.run_steps.proofs.Reach.{before_closed, comes_on}
-use Rattle.block_runs.specs.Machines.{AreIn, IsIn, acted}
+use Rattle.block_runs.specs.Machines.{AreIn, acted}
 use Rattle.block_runs.proofs.PointActs.{act_comes}
 use Rattle.program_runs.specs.Statements.{Block, Does, IsAmong, size_in, statement_aims}
 use Rattle.program_runs.proofs.Statements.{acted_among, goes_here, statement_closed}
@@ -39,13 +39,15 @@ use Rattle.member_runs.specs.Members.{structure_shape}
 use Rattle.member_freeings.specs.Freeing.{IsFreeing}
 use Rattle.member_freeings.proofs.FreeCode.{freeing_coded}
 use Rattle.member_freeings.proofs.FreeMeaning.{free_means}
-use Rattle.member_freeings.proofs.FreeRuns.{Given, done_comes, error_ends, freed_leaves, missing_leaves, variable_leaves}
+use Rattle.member_freeings.proofs.FreeRuns.{Given, done_comes, error_ends, freed_leaves, missing_leaves}
+use Rattle.member_freeings.proofs.FreeRuns.{variable_leaves}
 use Rattle.member_freeings.proofs.FreeRuns.{whole_code}
 
 -- behind its act
 freeing_comes :
     {k : Block} {labels : List Label} {p n : Spot} {members : List Y.Member} {leaves : List Y.Leaf}
-    {line index most : ℕ} (left' : ℕ) (h : IsFreeing k labels p n members leaves line index most) {q : Point} {numbers : ℕ → ℕ} {i : ℕ} (o : IsAmong k numbers q)
+    {line index most : ℕ} (left' : ℕ) (h : IsFreeing k labels p n members leaves line index most) {q : Point} {numbers
+    : ℕ → ℕ} {i : ℕ} (o : IsAmong k numbers q)
     (a : PointerAt k p h.structure.pointer q) (acts wanted : ℕ) (f : Family) → acts ≤ q.state.world.acts →
     q.control.line ≡ line → size_of (whole_code h.structure) + 18 < cost k.call.code →
     Linked k.call.surroundings.links k.call.code i (whole_code h.structure) → AreIn k.call.surroundings q numbers i f →
@@ -53,7 +55,8 @@ freeing_comes :
     (owing k.call.code (size_of (whole_code h.structure))
     (statement_aims k labels acts (i + size_of (whole_code h.structure)) wanted left'))
     (P.freeings (at_line k.around line) (freed_by p n ∷ []) k.call.surroundings.acts q.state)
-freeing_comes {k} {labels} {p} {n} {members} {leaves} {line} left' h {q} {numbers} {i} o a acts wanted f since same paid l there =
+freeing_comes {k} {labels} {p} {n} {members} {leaves} {line} left' h {q} {numbers} {i} o a acts wanted f since same
+    paid l there =
     subst (λ flow. Comes code 0 f (services_of q) (owing code debt aims) flow)
     (sym (free_means around' n members leaves w.acts a.points h.structure.meant))
     (by a.points.name refl (named q.state a.points.name (structure_shape members leaves)) refl)
@@ -97,7 +100,8 @@ freeing_comes {k} {labels} {p} {n} {members} {leaves} {line} left' h {q} {number
         same (omega (arith, paid)) l there)))
 
     by :
-        (m : Name) → a.points.name ≡ m → (g : Option Generation) → named q.state a.points.name (structure_shape members leaves) ≡ g →
+        (m : Name) → a.points.name ≡ m → (g : Option Generation) → named q.state a.points.name (structure_shape
+        members leaves) ≡ g →
         Goal (flow_by m g)
     by m e None none = missing m none
     by NullName e (Some g) lives =
@@ -110,13 +114,15 @@ freeing_comes {k} {labels} {p} {n} {members} {leaves} {line} left' h {q} {number
         (comes_on w.acts (R.error {R = Unit {0}} around' not_in_area_code w.acts q.state) (no_more around')
         (error_ends (before_closed w.acts (no_more around') (owing_closed code debt aims)) z h.ends around'
         not_in_area_code 0 f (omega arith) refl
-        (variable_leaves z serial g e (sym (ap (λ u. named q.state u (structure_shape members leaves)) e) ∙ lives)) same (omega (
+        (variable_leaves z serial g e (sym (ap (λ u. named q.state u (structure_shape members leaves)) e) ∙ lives))
+        same (omega (
           arith,
           paid,
         )) l there))
     by (BasedName area offset) e (Some g) lives =
         let r = done_comes z (with_area area (without_offset offset) q.state) 0 f (freed_services area offset q)
-        (freed_leaves z area offset g e (sym (ap (λ u. named q.state u (structure_shape members leaves)) e) ∙ lives)) l there in
+        (freed_leaves z area offset g e (sym (ap (λ u. named q.state u (structure_shape members leaves)) e) ∙ lives))
+        l there in
         subst Goal (sym (freed_is around' w.acts area offset g q.state))
         (record {
           to = λ early.
@@ -130,7 +136,8 @@ freeing_comes {k} {labels} {p} {n} {members} {leaves} {line} left' h {q} {number
 
 pub free_does :
     (k : Block) (labels : List Label) (p n : Spot) (members : List Y.Member) (leaves : List Y.Leaf)
-    (line index left' most : ℕ) → IsFreeing k labels p n members leaves line index most → Does k labels (freeing p n line) index left'
+    (line index left' most : ℕ) → IsFreeing k labels p n members leaves line index most → Does k labels (freeing p n
+    line) index left'
 unfolding M.statement ◌>>◌
 free_does k labels p n members leaves line index left' most h q numbers c wanted f o paid there =
     let w = k.call.surroundings in
