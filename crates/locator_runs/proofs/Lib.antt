@@ -1,10 +1,10 @@
-mod NameWrites
-mod FourParts
-mod NameTests
-mod PointerPoints
-mod PointerCode
-mod PointerMeaning
-mod PointerWrites
-mod PointerAssignments
-mod PointerTests
+pub mod NameWrites
+pub mod FourParts
+pub mod NameTests
+pub mod PointerPoints
+pub mod PointerCode
+pub mod PointerMeaning
+pub mod PointerWrites
+pub mod PointerAssignments
+pub mod PointerTests
 pub mod Rows

@@ -51,7 +51,7 @@ all_none d p q r s a b c e =
 abbrev pub differing : (a b : Name) → ℕ → ℕ
 differing a b n = bit_xor (word_of a n) (word_of b n)
 
-word_small : (a : Name) → IsName a → (n : ℕ) → word_of a n < 2 ^ 32
+pub word_small : (a : Name) → IsName a → (n : ℕ) → word_of a n < 2 ^ 32
 word_small NullName h zero = omega arith
 word_small (VariableName s) h zero = omega arith
 word_small (BasedName s o) h zero = omega arith

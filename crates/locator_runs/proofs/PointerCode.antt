@@ -43,7 +43,7 @@ own_placed e x declared own =
 
 -- ---- the sources
 
-abbrev address_from : Environment → Spot → Option Y.DeclaredVariable → Address
+abbrev pub address_from : Environment → Spot → Option Y.DeclaredVariable → Address
 address_from e x o =
     record {
       register = if has_constant_size (declared_in o) then frame_in e x.level u3 else u3;
@@ -51,7 +51,7 @@ address_from e x o =
           then automatic_place e.parts e.program x.block x.level x.index + 16 + leaf_place (declared_in o) 0 else 0);
     }
 
-abbrev reached_from : Environment → Taken → Spot → Option Y.DeclaredVariable → Code
+abbrev pub reached_from : Environment → Taken → Spot → Option Y.DeclaredVariable → Code
 reached_from e t x o =
     if has_constant_size (declared_in o) then frame_found e x.level u3 ++ []
     else found_reached e t t (variable_of x) whole_part (leaf_number e (variable_of x) 0) Y.NoNumber
@@ -60,7 +60,7 @@ reached_from e t x o =
 abbrev pub copied_code : (from to : ℕ) → Code
 copied_code from to = name_copied (in_own_frame (pos from)) (in_own_frame (pos to))
 
-abbrev found_by : Environment → Spot → Bool → Code
+abbrev pub found_by : Environment → Spot → Bool → Code
 found_by e x q = cond q [] (load_word u3 frame_register (display x.level)) ++ []
 
 -- ---- the statements

@@ -26,7 +26,7 @@ pointer_means around {s} k h =
 abbrev pub putting : Around → Spot → Y.Pointer → Meaning (Unit {0})
 putting around x source = (V.stored_value around (Y.StoredPointer source)) >>= (λ v. M.assigned around (whole x) v)
 
-put_is :
+pub put_is :
     (around : Around) {s : State} {x : Spot} (k : ℕ) (name : Name) (h : Points s x) →
     M.assigned around (whole x) (BasicPointer name) k s ≡ Normal tt (pointed_state s h name)
 unfolding M.assigned P.element_stored stored ◌>>=◌ give

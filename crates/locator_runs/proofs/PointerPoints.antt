@@ -58,7 +58,7 @@ own_base {k} {x} is o =
     by (inl own) = sym own.1
     by (inr outer) = absurd (cc (sym is.own ∙ outer.0))
 
-pointer_of : (v : BasicValue) → IsOf Pointer v → (n : Name) × (v ≡ BasicPointer n)
+pub pointer_of : (v : BasicValue) → IsOf Pointer v → (n : Name) × (v ≡ BasicPointer n)
 pointer_of (BasicPointer n) is = (n, refl)
 pointer_of (BasicText t) is = absurd is
 pointer_of (BasicBit b) is = absurd is
@@ -151,7 +151,7 @@ there_is : (p : Point) {x : Spot} (h : Points p.state x) →
     generation_at p.state (VariableName h.serial) ≡ Some (pointer_generation h.values)
 there_is p h = ap generation_of h.lives ∙ ap (λ y. Some y) h.generation
 
-holder_is : (p : Point) {x : Spot} (h : Points p.state x) (m : List ℕ) → Holds (now p m) →
+pub holder_is : (p : Point) {x : Spot} (h : Points p.state x) (m : List ℕ) → Holds (now p m) →
     held p.state h.serial ≡ Some (Alone (pointer_generation h.values))
 holder_is p h m stored =
     alone_holder p.state (p.state.serials + 1) h.serial (pointer_generation h.values) stored.lives.falling
@@ -212,7 +212,7 @@ pointers_told k x is p numbers m o stored =
 
 -- ---- the point behind
 
-name_length : (a : Name) → length (name_bytes a) ≡ 16
+pub name_length : (a : Name) → length (name_bytes a) ≡ 16
 name_length NullName = refl
 name_length (VariableName s) = refl
 name_length (BasedName s o) = refl

@@ -1,0 +1,4 @@
+pub mod Members
+pub mod MemberAssignments
+pub mod MemberPointers
+pub mod Allocations
