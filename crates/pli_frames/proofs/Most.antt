@@ -47,6 +47,25 @@ one_more now here rest =
 pub none_left : (t : Taken) → most_taken t none_taken ≡ t
 none_left t = taken_alike _ _ _ _ (none_of t.registers) (none_of t.words)
 
+none_before : (n : ℕ) → max 0 n ≡ n
+none_before n = omega arith
+
+turned_of : (now here rest : ℕ) → max now (max here rest) ≡ max (max now rest) here
+turned_of now here rest = omega arith
+
+pub none_first : (t : Taken) → most_taken none_taken t ≡ t
+none_first t = taken_alike _ _ _ _ (none_before t.registers) (none_before t.words)
+
+pub most_more : (now here rest : Taken) → most_taken now (most_taken here rest) ≡ most_taken (most_taken now here) rest
+most_more now here rest = sym (one_more now here rest)
+
+-- the last of two first
+pub most_turned : (now here rest : Taken)
+    → most_taken now (most_taken here rest) ≡ most_taken (most_taken now rest) here
+most_turned now here rest =
+    taken_alike _ _ _ _ (turned_of now.registers here.registers rest.registers)
+    (turned_of now.words here.words rest.words)
+
 next_most : {X Y : Type 0} (f : X → Y) (all : List Y → Taken) (xs : List X) (i : ℕ) (x : X)
     (now here next target : Taken) → i < length xs → x ≡ get_or xs i x
     → all (f x ∷ map f (drop (i + 1) xs)) ≡ most_taken here (all (map f (drop (i + 1) xs)))

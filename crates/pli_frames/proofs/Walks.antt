@@ -1,5 +1,5 @@
 -- What each form takes by what its parts take.
-use Rattle.std.proofs.Common.{◌≡◌, ℕ, suc, ◌+◌, ◌*◌, refl, arith}
+use Rattle.std.proofs.Common.{◌≡◌, ℕ, suc, ◌+◌, ◌*◌, refl, ap, ◌∙◌, arith}
 use Rattle.pli_typing.specs.declared.typed.Number as N
 use Rattle.pli_typing.specs.declared.typed.Numbers as Q
 use Rattle.pli_typing.specs.declared.typed.Text as T
@@ -12,10 +12,16 @@ use Rattle.pli_typing.specs.declared.typed.Arguments as J
 use Rattle.pli_typing.specs.declared.typed.Stored as S
 use Rattle.pli_typing.specs.TypedView.{variable_of, number_of, numbers_of, text_of, bit_of, pointer_of, offset_of, reference_of, argument_of, arguments_of, stored_of}
 use Rattle.pli_coding.specs.Expressions.{argument_count, list_words}
-use Rattle.pli_coding.specs.Environments.{with_words, with_number, most_taken}
+use Rattle.pli_coding.specs.Environments.{with_words, with_number, most_taken, none_taken}
+use Rattle.pli_frames.specs.Beside.{beside}
+use Rattle.pli_frames.proofs.Most.{most_more, most_turned, none_first}
 use Rattle.pli_coding.specs.Locating.{behind_locator}
 use Rattle.pli_coding.specs.Temporaries.{number_takes, numbers_take, text_takes, bit_takes, pointer_takes, offset_takes}
 use Rattle.pli_coding.specs.Temporaries.{reference_takes, subscripts_take, arguments_take, argument_takes, stored_takes}
+
+pub beside-none : (k : _) → beside none_taken k ≡ k
+unfolding beside
+beside-none k = none_first k
 
 pub number-Constant : (k : _) (n : _) → number_takes k (number_of (N.Constant n)) ≡ k
 unfolding number_of
@@ -38,54 +44,64 @@ pub number-OfBit : (k : _) (a : _) (b : _) → number_takes k (number_of (N.OfBi
 unfolding number_of
 number-OfBit k a b = refl
 
-pub number-Signed : (k : _) (s : _) (a : _) (n : _) → number_takes k (number_of (N.Signed' s a n))
-    ≡ most_taken (with_number k) (number_takes k (number_of n))
-unfolding number_of
-number-Signed k s a n = refl
+pub number-Signed : (m : _) (k : _) (s : _) (a : _) (n : _)
+    → beside m (number_takes k (number_of (N.Signed' s a n)))
+    ≡ beside (beside m (with_number k)) (number_takes k (number_of n))
+unfolding number_of beside
+number-Signed m k s a n = most_more m (with_number k) (number_takes k (number_of n))
 
-pub number-Calculated : (k : _) (op : _) (a : _) (l : _) (b : _) (r : _)
-    → number_takes k (number_of (N.Calculated' op a l b r))
-    ≡ most_taken (number_takes k (number_of l)) (number_takes (with_number k) (number_of r))
-unfolding number_of
-number-Calculated k op a l b r = refl
+pub number-Calculated : (m : _) (k : _) (op : _) (a : _) (l : _) (b : _) (r : _)
+    → beside m (number_takes k (number_of (N.Calculated' op a l b r)))
+    ≡ beside (beside m (number_takes (with_number k) (number_of r))) (number_takes k (number_of l))
+unfolding number_of beside
+number-Calculated m k op a l b r =
+    most_turned m (number_takes k (number_of l)) (number_takes (with_number k) (number_of r))
 
-pub number-Absolute : (k : _) (a : _) (n : _) → number_takes k (number_of (N.Absolute' a n))
-    ≡ most_taken (with_number k) (number_takes k (number_of n))
-unfolding number_of
-number-Absolute k a n = refl
+pub number-Absolute : (m : _) (k : _) (a : _) (n : _)
+    → beside m (number_takes k (number_of (N.Absolute' a n)))
+    ≡ beside (beside m (with_number k)) (number_takes k (number_of n))
+unfolding number_of beside
+number-Absolute m k a n = most_more m (with_number k) (number_takes k (number_of n))
 
 pub number-SignOf : (k : _) (a : _) (n : _) → number_takes k (number_of (N.SignOf' a n)) ≡ number_takes k (number_of n)
 unfolding number_of
 number-SignOf k a n = refl
 
-pub number-Extreme : (k : _) (w : _) (a : _) (n : _) (more : _) → number_takes k (number_of (N.Extreme' w a n more))
-    ≡ most_taken (number_takes k (number_of n)) (numbers_take (with_number k) (numbers_of more))
-unfolding number_of
-number-Extreme k w a n more = refl
+pub number-Extreme : (m : _) (k : _) (w : _) (a : _) (n : _) (more : _)
+    → beside m (number_takes k (number_of (N.Extreme' w a n more)))
+    ≡ beside (beside m (numbers_take (with_number k) (numbers_of more))) (number_takes k (number_of n))
+unfolding number_of beside
+number-Extreme m k w a n more =
+    most_turned m (number_takes k (number_of n)) (numbers_take (with_number k) (numbers_of more))
 
-pub number-Modulo : (k : _) (a : _) (l : _) (b : _) (r : _) → number_takes k (number_of (N.Modulo' a l b r))
-    ≡ most_taken (number_takes k (number_of l)) (number_takes (with_number k) (number_of r))
-unfolding number_of
-number-Modulo k a l b r = refl
+pub number-Modulo : (m : _) (k : _) (a : _) (l : _) (b : _) (r : _)
+    → beside m (number_takes k (number_of (N.Modulo' a l b r)))
+    ≡ beside (beside m (number_takes (with_number k) (number_of r))) (number_takes k (number_of l))
+unfolding number_of beside
+number-Modulo m k a l b r = most_turned m (number_takes k (number_of l)) (number_takes (with_number k) (number_of r))
 
-pub number-Divided : (k : _) (p : _) (a : _) (l : _) (b : _) (r : _) → number_takes k (number_of (N.Divided' p a l b r))
-    ≡ most_taken (number_takes k (number_of l)) (number_takes (with_number k) (number_of r))
-unfolding number_of
-number-Divided k p a l b r = refl
+pub number-Divided : (m : _) (k : _) (p : _) (a : _) (l : _) (b : _) (r : _)
+    → beside m (number_takes k (number_of (N.Divided' p a l b r)))
+    ≡ beside (beside m (number_takes (with_number k) (number_of r))) (number_takes k (number_of l))
+unfolding number_of beside
+number-Divided m k p a l b r =
+    most_turned m (number_takes k (number_of l)) (number_takes (with_number k) (number_of r))
 
 pub number-LengthOf : (k : _) (a : _) (t : _) → number_takes k (number_of (N.LengthOf' a t)) ≡ text_takes k (text_of t)
 unfolding number_of
 number-LengthOf k a t = refl
 
-pub number-IndexOf : (k : _) (a : _) (s : _) (b : _) (t : _) → number_takes k (number_of (N.IndexOf' a s b t))
-    ≡ most_taken (text_takes k (text_of s)) (text_takes k (text_of t))
-unfolding number_of
-number-IndexOf k a s b t = refl
+pub number-IndexOf : (m : _) (k : _) (a : _) (s : _) (b : _) (t : _)
+    → beside m (number_takes k (number_of (N.IndexOf' a s b t)))
+    ≡ beside (beside m (text_takes k (text_of t))) (text_takes k (text_of s))
+unfolding number_of beside
+number-IndexOf m k a s b t = most_turned m (text_takes k (text_of s)) (text_takes k (text_of t))
 
-pub number-VerifyOf : (k : _) (a : _) (s : _) (b : _) (t : _) → number_takes k (number_of (N.VerifyOf' a s b t))
-    ≡ most_taken (text_takes k (text_of s)) (text_takes k (text_of t))
-unfolding number_of
-number-VerifyOf k a s b t = refl
+pub number-VerifyOf : (m : _) (k : _) (a : _) (s : _) (b : _) (t : _)
+    → beside m (number_takes k (number_of (N.VerifyOf' a s b t)))
+    ≡ beside (beside m (text_takes k (text_of t))) (text_takes k (text_of s))
+unfolding number_of beside
+number-VerifyOf m k a s b t = most_turned m (text_takes k (text_of s)) (text_takes k (text_of t))
 
 pub number-LowerBound : (k : _) (a : _) (r : _) (n : _) → number_takes k (number_of (N.LowerBound' a r n))
     ≡ reference_takes k (reference_of r)
@@ -97,10 +113,11 @@ pub number-UpperBound : (k : _) (a : _) (r : _) (n : _) → number_takes k (numb
 unfolding number_of
 number-UpperBound k a r n = refl
 
-pub number-ElementsOf : (k : _) (a : _) (r : _) (n : _) → number_takes k (number_of (N.ElementsOf' a r n))
-    ≡ most_taken (with_number k) (reference_takes k (reference_of r))
-unfolding number_of
-number-ElementsOf k a r n = refl
+pub number-ElementsOf : (m : _) (k : _) (a : _) (r : _) (n : _)
+    → beside m (number_takes k (number_of (N.ElementsOf' a r n)))
+    ≡ beside (beside m (with_number k)) (reference_takes k (reference_of r))
+unfolding number_of beside
+number-ElementsOf m k a r n = most_more m (with_number k) (reference_takes k (reference_of r))
 
 pub number-AllocationsOf : (k : _) (v : _) → number_takes k (number_of (N.AllocationsOf v)) ≡ k
 unfolding number_of
@@ -114,19 +131,22 @@ pub numbers-End : (k : _) → numbers_take k (numbers_of Q.End) ≡ k
 unfolding numbers_of
 numbers-End k = refl
 
-pub numbers-More : (k : _) (a : _) (n : _) (b : _) (ns : _) → numbers_take k (numbers_of (Q.More' a n b ns))
-    ≡ most_taken (number_takes k (number_of n)) (numbers_take k (numbers_of ns))
-unfolding numbers_of
-numbers-More k a n b ns = refl
+pub numbers-More : (m : _) (k : _) (a : _) (n : _) (b : _) (ns : _)
+    → beside m (numbers_take k (numbers_of (Q.More' a n b ns)))
+    ≡ beside (beside m (numbers_take k (numbers_of ns))) (number_takes k (number_of n))
+unfolding numbers_of beside
+numbers-More m k a n b ns = most_turned m (number_takes k (number_of n)) (numbers_take k (numbers_of ns))
 
 pub subscripts-End : (k : _) → subscripts_take k (numbers_of Q.End) ≡ k
 unfolding numbers_of
 subscripts-End k = refl
 
-pub subscripts-More : (k : _) (a : _) (n : _) (b : _) (ns : _) → subscripts_take k (numbers_of (Q.More' a n b ns))
-    ≡ most_taken (number_takes k (number_of n)) (subscripts_take (with_number k) (numbers_of ns))
-unfolding numbers_of
-subscripts-More k a n b ns = refl
+pub subscripts-More : (m : _) (k : _) (a : _) (n : _) (b : _) (ns : _)
+    → beside m (subscripts_take k (numbers_of (Q.More' a n b ns)))
+    ≡ beside (beside m (subscripts_take (with_number k) (numbers_of ns))) (number_takes k (number_of n))
+unfolding numbers_of beside
+subscripts-More m k a n b ns =
+    most_turned m (number_takes k (number_of n)) (subscripts_take (with_number k) (numbers_of ns))
 
 pub text-Constant : (k : _) (t : _) → text_takes k (text_of (T.Constant t)) ≡ k
 unfolding text_of
@@ -150,22 +170,28 @@ pub text-OfBit : (k : _) (a : _) (b : _) → text_takes k (text_of (T.OfBit' a b
 unfolding text_of
 text-OfBit k a b = refl
 
-pub text-Joined : (k : _) (a : _) (l : _) (b : _) (r : _) → text_takes k (text_of (T.Joined' a l b r))
-    ≡ most_taken (text_takes k (text_of l)) (text_takes k (text_of r))
-unfolding text_of
-text-Joined k a l b r = refl
+pub text-Joined : (m : _) (k : _) (a : _) (l : _) (b : _) (r : _)
+    → beside m (text_takes k (text_of (T.Joined' a l b r)))
+    ≡ beside (beside m (text_takes k (text_of r))) (text_takes k (text_of l))
+unfolding text_of beside
+text-Joined m k a l b r = most_turned m (text_takes k (text_of l)) (text_takes k (text_of r))
 
-pub text-SubstringFrom : (k : _) (a : _) (t : _) (b : _) (i : _) → text_takes k (text_of (T.SubstringFrom' a t b i))
-    ≡ most_taken (text_takes k (text_of t)) (number_takes k (number_of i))
-unfolding text_of
-text-SubstringFrom k a t b i = refl
+pub text-SubstringFrom : (m : _) (k : _) (a : _) (t : _) (b : _) (i : _)
+    → beside m (text_takes k (text_of (T.SubstringFrom' a t b i)))
+    ≡ beside (beside m (number_takes k (number_of i))) (text_takes k (text_of t))
+unfolding text_of beside
+text-SubstringFrom m k a t b i = most_turned m (text_takes k (text_of t)) (number_takes k (number_of i))
 
-pub text-Substring : (k : _) (a : _) (t : _) (b : _) (i : _) (c : _) (j : _)
-    → text_takes k (text_of (T.Substring' a t b i c j))
-    ≡ most_taken (text_takes k (text_of t))
-    (most_taken (number_takes k (number_of i)) (number_takes (with_number k) (number_of j)))
-unfolding text_of
-text-Substring k a t b i c j = refl
+pub text-Substring : (m : _) (k : _) (a : _) (t : _) (b : _) (i : _) (c : _) (j : _)
+    → beside m (text_takes k (text_of (T.Substring' a t b i c j)))
+    ≡ beside (beside (beside m (number_takes (with_number k) (number_of j))) (number_takes k
+    (number_of i))) (text_takes k (text_of t))
+unfolding text_of beside
+text-Substring m k a t b i c j =
+    most_turned m (text_takes k (text_of t)) (most_taken (number_takes k (number_of i)) (number_takes
+    (with_number k) (number_of j)))
+    ∙ ap (λ u. most_taken u (text_takes k (text_of t))) (most_turned m (number_takes k (number_of i))
+    (number_takes (with_number k) (number_of j)))
 
 pub bit-Constant : (k : _) (b : _) → bit_takes k (bit_of (B.Constant b)) ≡ k
 unfolding bit_of
@@ -188,64 +214,74 @@ pub bit-Negated : (k : _) (a : _) (b : _) → bit_takes k (bit_of (B.Negated' a 
 unfolding bit_of
 bit-Negated k a b = refl
 
-pub bit-Combined : (k : _) (op : _) (a : _) (l : _) (b : _) (r : _) → bit_takes k (bit_of (B.Combined' op a l b r))
-    ≡ most_taken (bit_takes k (bit_of l)) (bit_takes (with_number k) (bit_of r))
-unfolding bit_of
-bit-Combined k op a l b r = refl
+pub bit-Combined : (m : _) (k : _) (op : _) (a : _) (l : _) (b : _) (r : _)
+    → beside m (bit_takes k (bit_of (B.Combined' op a l b r)))
+    ≡ beside (beside m (bit_takes (with_number k) (bit_of r))) (bit_takes k (bit_of l))
+unfolding bit_of beside
+bit-Combined m k op a l b r = most_turned m (bit_takes k (bit_of l)) (bit_takes (with_number k) (bit_of r))
 
-pub bit-NumbersCompared : (k : _) (op : _) (a : _) (l : _) (b : _) (r : _)
-    → bit_takes k (bit_of (B.NumbersCompared' op a l b r))
-    ≡ most_taken (number_takes k (number_of l)) (number_takes (with_number k) (number_of r))
-unfolding bit_of
-bit-NumbersCompared k op a l b r = refl
+pub bit-NumbersCompared : (m : _) (k : _) (op : _) (a : _) (l : _) (b : _) (r : _)
+    → beside m (bit_takes k (bit_of (B.NumbersCompared' op a l b r)))
+    ≡ beside (beside m (number_takes (with_number k) (number_of r))) (number_takes k (number_of l))
+unfolding bit_of beside
+bit-NumbersCompared m k op a l b r =
+    most_turned m (number_takes k (number_of l)) (number_takes (with_number k) (number_of r))
 
-pub bit-TextsCompared : (k : _) (op : _) (a : _) (l : _) (b : _) (r : _)
-    → bit_takes k (bit_of (B.TextsCompared' op a l b r))
-    ≡ most_taken (text_takes k (text_of l)) (text_takes k (text_of r))
-unfolding bit_of
-bit-TextsCompared k op a l b r = refl
+pub bit-TextsCompared : (m : _) (k : _) (op : _) (a : _) (l : _) (b : _) (r : _)
+    → beside m (bit_takes k (bit_of (B.TextsCompared' op a l b r)))
+    ≡ beside (beside m (text_takes k (text_of r))) (text_takes k (text_of l))
+unfolding bit_of beside
+bit-TextsCompared m k op a l b r = most_turned m (text_takes k (text_of l)) (text_takes k (text_of r))
 
-pub bit-BitsCompared : (k : _) (op : _) (a : _) (l : _) (b : _) (r : _)
-    → bit_takes k (bit_of (B.BitsCompared' op a l b r))
-    ≡ most_taken (bit_takes k (bit_of l)) (bit_takes (with_number k) (bit_of r))
-unfolding bit_of
-bit-BitsCompared k op a l b r = refl
+pub bit-BitsCompared : (m : _) (k : _) (op : _) (a : _) (l : _) (b : _) (r : _)
+    → beside m (bit_takes k (bit_of (B.BitsCompared' op a l b r)))
+    ≡ beside (beside m (bit_takes (with_number k) (bit_of r))) (bit_takes k (bit_of l))
+unfolding bit_of beside
+bit-BitsCompared m k op a l b r = most_turned m (bit_takes k (bit_of l)) (bit_takes (with_number k) (bit_of r))
 
-pub bit-PointersCompared : (k : _) (e : _) (a : _) (l : _) (b : _) (r : _)
-    → bit_takes k (bit_of (B.PointersCompared' e a l b r))
-    ≡ most_taken (pointer_takes k (pointer_of l)) (pointer_takes (with_words 4 k) (pointer_of r))
-unfolding bit_of
-bit-PointersCompared k e a l b r = refl
+pub bit-PointersCompared : (m : _) (k : _) (e : _) (a : _) (l : _) (b : _) (r : _)
+    → beside m (bit_takes k (bit_of (B.PointersCompared' e a l b r)))
+    ≡ beside (beside m (pointer_takes (with_words 4 k) (pointer_of r))) (pointer_takes k (pointer_of l))
+unfolding bit_of beside
+bit-PointersCompared m k e a l b r =
+    most_turned m (pointer_takes k (pointer_of l)) (pointer_takes (with_words 4 k) (pointer_of r))
 
-pub bit-OffsetsCompared : (k : _) (e : _) (a : _) (l : _) (b : _) (r : _)
-    → bit_takes k (bit_of (B.OffsetsCompared' e a l b r))
-    ≡ most_taken (offset_takes k (offset_of l)) (offset_takes (with_number k) (offset_of r))
-unfolding bit_of
-bit-OffsetsCompared k e a l b r = refl
+pub bit-OffsetsCompared : (m : _) (k : _) (e : _) (a : _) (l : _) (b : _) (r : _)
+    → beside m (bit_takes k (bit_of (B.OffsetsCompared' e a l b r)))
+    ≡ beside (beside m (offset_takes (with_number k) (offset_of r))) (offset_takes k (offset_of l))
+unfolding bit_of beside
+bit-OffsetsCompared m k e a l b r =
+    most_turned m (offset_takes k (offset_of l)) (offset_takes (with_number k) (offset_of r))
 
 pub pointer-Null : (k : _) → pointer_takes k (pointer_of P.Null) ≡ with_words 4 k
 unfolding pointer_of
 pointer-Null k = refl
 
-pub pointer-In : (k : _) (a : _) (r : _) → pointer_takes k (pointer_of (P.In' a r))
-    ≡ most_taken (with_words 4 k) (reference_takes k (reference_of r))
-unfolding pointer_of
-pointer-In k a r = refl
+pub pointer-In : (m : _) (k : _) (a : _) (r : _)
+    → beside m (pointer_takes k (pointer_of (P.In' a r)))
+    ≡ beside (beside m (with_words 4 k)) (reference_takes k (reference_of r))
+unfolding pointer_of beside
+pointer-In m k a r = most_more m (with_words 4 k) (reference_takes k (reference_of r))
 
-pub pointer-From : (k : _) (c : _) (a : _) (xs : _) → pointer_takes k (pointer_of (P.From' c a xs))
-    ≡ most_taken (with_words 4 k) (arguments_take (with_words (list_words (arguments_of xs)) k) (arguments_of xs))
-unfolding pointer_of
-pointer-From k c a xs = refl
+pub pointer-From : (m : _) (k : _) (c : _) (a : _) (xs : _)
+    → beside m (pointer_takes k (pointer_of (P.From' c a xs)))
+    ≡ beside (beside m (with_words 4 k)) (arguments_take (with_words (list_words (arguments_of xs)) k)
+    (arguments_of xs))
+unfolding pointer_of beside
+pointer-From m k c a xs =
+    most_more m (with_words 4 k) (arguments_take (with_words (list_words (arguments_of xs)) k) (arguments_of xs))
 
-pub pointer-AddressOf : (k : _) (a : _) (r : _) → pointer_takes k (pointer_of (P.AddressOf' a r))
-    ≡ most_taken (with_words 4 k) (reference_takes k (reference_of r))
-unfolding pointer_of
-pointer-AddressOf k a r = refl
+pub pointer-AddressOf : (m : _) (k : _) (a : _) (r : _)
+    → beside m (pointer_takes k (pointer_of (P.AddressOf' a r)))
+    ≡ beside (beside m (with_words 4 k)) (reference_takes k (reference_of r))
+unfolding pointer_of beside
+pointer-AddressOf m k a r = most_more m (with_words 4 k) (reference_takes k (reference_of r))
 
-pub pointer-Into : (k : _) (a : _) (o : _) (area : _) → pointer_takes k (pointer_of (P.Into' a o area))
-    ≡ most_taken (with_words 4 k) (offset_takes k (offset_of o))
-unfolding pointer_of
-pointer-Into k a o area = refl
+pub pointer-Into : (m : _) (k : _) (a : _) (o : _) (area : _)
+    → beside m (pointer_takes k (pointer_of (P.Into' a o area)))
+    ≡ beside (beside m (with_words 4 k)) (offset_takes k (offset_of o))
+unfolding pointer_of beside
+pointer-Into m k a o area = most_more m (with_words 4 k) (offset_takes k (offset_of o))
 
 pub offset-Null : (k : _) → offset_takes k (offset_of O.Null) ≡ k
 unfolding offset_of
@@ -265,16 +301,20 @@ pub offset-Into : (k : _) (a : _) (p : _) (area : _) → offset_takes k (offset_
 unfolding offset_of
 offset-Into k a p area = refl
 
-pub reference-Plain : (k : _) (v : _) (p : _) (ns : _) → reference_takes k (reference_of (R.Plain v p ns))
-    ≡ most_taken k (subscripts_take (behind_locator (variable_of v) k) (numbers_of ns))
-unfolding reference_of
-reference-Plain k v p ns = refl
+pub reference-Plain : (m : _) (k : _) (v : _) (p : _) (ns : _)
+    → beside m (reference_takes k (reference_of (R.Plain v p ns)))
+    ≡ beside (beside m (subscripts_take (behind_locator (variable_of v) k) (numbers_of ns))) k
+unfolding reference_of beside
+reference-Plain m k v p ns = most_turned m k (subscripts_take (behind_locator (variable_of v) k) (numbers_of ns))
 
-pub reference-Located : (k : _) (a : _) (l : _) (v : _) (p : _) (ns : _)
-    → reference_takes k (reference_of (R.Located' a l v p ns))
-    ≡ most_taken (pointer_takes k (pointer_of l)) (subscripts_take (behind_locator (variable_of v) k) (numbers_of ns))
-unfolding reference_of
-reference-Located k a l v p ns = refl
+pub reference-Located : (m : _) (k : _) (a : _) (l : _) (v : _) (p : _) (ns : _)
+    → beside m (reference_takes k (reference_of (R.Located' a l v p ns)))
+    ≡ beside (beside m (subscripts_take (behind_locator (variable_of v) k) (numbers_of ns)))
+    (pointer_takes k (pointer_of l))
+unfolding reference_of beside
+reference-Located m k a l v p ns =
+    most_turned m (pointer_takes k (pointer_of l)) (subscripts_take (behind_locator (variable_of v) k)
+    (numbers_of ns))
 
 pub argument-ByReference : (k : _) (r : _) → argument_takes k (argument_of (F.ByReference r))
     ≡ reference_takes k (reference_of r)
@@ -300,10 +340,11 @@ pub arguments-End : (k : _) → arguments_take k (arguments_of J.End) ≡ k
 unfolding arguments_of
 arguments-End k = refl
 
-pub arguments-More : (k : _) (a : _) (x : _) (b : _) (xs : _) → arguments_take k (arguments_of (J.More' a x b xs))
-    ≡ most_taken (argument_takes k (argument_of x)) (arguments_take k (arguments_of xs))
-unfolding arguments_of
-arguments-More k a x b xs = refl
+pub arguments-More : (m : _) (k : _) (a : _) (x : _) (b : _) (xs : _)
+    → beside m (arguments_take k (arguments_of (J.More' a x b xs)))
+    ≡ beside (beside m (arguments_take k (arguments_of xs))) (argument_takes k (argument_of x))
+unfolding arguments_of beside
+arguments-More m k a x b xs = most_turned m (argument_takes k (argument_of x)) (arguments_take k (arguments_of xs))
 
 six_more : (n : ℕ) → 6 * suc n ≡ 6 + 6 * n
 six_more n = omega arith
@@ -316,10 +357,11 @@ pub list-More : (a : _) (x : _) (b : _) (xs : _) → list_words (arguments_of (J
 unfolding arguments_of
 list-More a x b xs = six_more (argument_count (arguments_of xs))
 
-pub stored-Number : (k : _) (p : _) (n : _) → stored_takes k (stored_of (S.Number p n))
-    ≡ most_taken (with_number k) (number_takes k (number_of n))
-unfolding stored_of
-stored-Number k p n = refl
+pub stored-Number : (m : _) (k : _) (p : _) (n : _)
+    → beside m (stored_takes k (stored_of (S.Number p n)))
+    ≡ beside (beside m (with_number k)) (number_takes k (number_of n))
+unfolding stored_of beside
+stored-Number m k p n = most_more m (with_number k) (number_takes k (number_of n))
 
 pub stored-Text : (k : _) (t : _) → stored_takes k (stored_of (S.Text t)) ≡ text_takes k (text_of t)
 unfolding stored_of
@@ -337,4 +379,4 @@ pub stored-Offset : (k : _) (o : _) → stored_takes k (stored_of (S.Offset o)) 
 unfolding stored_of
 stored-Offset k o = refl
 
-pub ruleset walks = (number-Constant, number-In, number-From, number-OfText, number-OfBit, number-Signed, number-Calculated, number-Absolute, number-SignOf, number-Extreme, number-Modulo, number-Divided, number-LengthOf, number-IndexOf, number-VerifyOf, number-LowerBound, number-UpperBound, number-ElementsOf, number-AllocationsOf, number-OnCode, numbers-End, numbers-More, subscripts-End, subscripts-More, text-Constant, text-In, text-From, text-OfNumber, text-OfBit, text-Joined, text-SubstringFrom, text-Substring, bit-Constant, bit-In, bit-From, bit-OfText, bit-Negated, bit-Combined, bit-NumbersCompared, bit-TextsCompared, bit-BitsCompared, bit-PointersCompared, bit-OffsetsCompared, pointer-Null, pointer-In, pointer-From, pointer-AddressOf, pointer-Into, offset-Null, offset-In, offset-From, offset-Into, reference-Plain, reference-Located, argument-ByReference, argument-ByCopy, argument-ByOffsetInParameter, argument-ByOffsetInAutomatic, arguments-End, arguments-More, list-End, list-More, stored-Number, stored-Text, stored-Bit, stored-Pointer, stored-Offset)
+pub ruleset walks = (beside-none, number-Constant, number-In, number-From, number-OfText, number-OfBit, number-Signed, number-Calculated, number-Absolute, number-SignOf, number-Extreme, number-Modulo, number-Divided, number-LengthOf, number-IndexOf, number-VerifyOf, number-LowerBound, number-UpperBound, number-ElementsOf, number-AllocationsOf, number-OnCode, numbers-End, numbers-More, subscripts-End, subscripts-More, text-Constant, text-In, text-From, text-OfNumber, text-OfBit, text-Joined, text-SubstringFrom, text-Substring, bit-Constant, bit-In, bit-From, bit-OfText, bit-Negated, bit-Combined, bit-NumbersCompared, bit-TextsCompared, bit-BitsCompared, bit-PointersCompared, bit-OffsetsCompared, pointer-Null, pointer-In, pointer-From, pointer-AddressOf, pointer-Into, offset-Null, offset-In, offset-From, offset-Into, reference-Plain, reference-Located, argument-ByReference, argument-ByCopy, argument-ByOffsetInParameter, argument-ByOffsetInAutomatic, arguments-End, arguments-More, list-End, list-More, stored-Number, stored-Text, stored-Bit, stored-Pointer, stored-Offset)

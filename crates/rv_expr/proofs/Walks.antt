@@ -1,7 +1,7 @@
 -- The code of each form by that of its parts.
 use Rattle.std.proofs.Common.{◌≡◌, ℕ, suc, ◌+◌, negsuc, true, false, [], ◌∷◌, ◌++◌, refl, sym, ap, ◌∙◌, append_assoc}
 use Rattle.std.proofs.Common.{append-nil, add-one, ℤ, Bool, Option, Some, None, unwrap_or, if◌then◌else◌}
-use Rattle.std.specs.Prelude.{◌&&◌, if◌then◌else◌}
+use Rattle.std.specs.Prelude.{◌&&◌, is_some, if◌then◌else◌}
 use Rattle.pli_typing.specs.declared.typed.Number as N
 use Rattle.pli_typing.specs.declared.typed.Numbers as Q
 use Rattle.pli_typing.specs.declared.typed.Text as T
@@ -35,8 +35,9 @@ use Rattle.rv_operation.specs.Pieces.{name_to_offset, null_kept, number_pushed, 
 use Rattle.rv_operation.specs.Pieces.{part_given, part_named, result_kept, substring_cut, text_loaded, text_measured}
 use Rattle.rv_operation.specs.Pieces.{text_to_bit, text_to_number, texts_compared, value_loaded, verified}
 use Rattle.rv_operation.specs.Pieces.{null_compared, places_compared, standing_named, standing_reached}
-use Rattle.rv_expr.specs.Forms.{both_numbers, both_bits, locator_of, subscripted, address_kept, located_reached}
-use Rattle.rv_expr.specs.Forms.{names_told, null_told, offset_told, operand_kept, pointers_compared}
+use Rattle.rv_expr.specs.Forms.{address_kept, behind, both_bits, both_numbers, locator_of, names_told, null_told}
+use Rattle.rv_expr.specs.Forms.{offset_told, operand_kept, pointers_compared, reached_by, standing_at}
+use Rattle.rv_expr.specs.Forms.{standing_before, subscripted, waiting_at, waiting_locator}
 use Rattle.rv_operation.specs.Standing.{locator_in}
 
 regroup : (a b c d e : Code) → a ++ (b ++ (c ++ (d ++ e))) ≡ (a ++ (b ++ (c ++ d))) ++ e
@@ -99,8 +100,9 @@ at_pointer : (e : Environment) (t : Taken) (p : Y.Pointer) (v : Y.Variable) (par
     → where_standing o (λ name. subscripts_code e t subscripts ++ based_reached e name t v part subscripts)
     (pointer_code e t p
     ++ (subscripts_code e (behind_locator v t) subscripts ++ reached e t (behind_locator v t) v part subscripts))
-    ≡ located_reached e t p v part subscripts o
-unfolding located_reached subscripted element_reached standing_reached
+    ≡ (if is_some o then [] else pointer_code e t p)
+    ++ reached_by e t (Y.Referring v (Y.LocatedBy p) part subscripts) o
+unfolding reached_by standing_at waiting_at subscripted element_reached standing_reached
 at_pointer e t p v part subscripts (Some name) = refl
 at_pointer e t p v part subscripts None = refl
 
@@ -352,30 +354,69 @@ offset-Into e t a p area = at_name e t (pointer_of p) (variable_of area) (standi
 
 pub ruleset offsets = (offset-Null, offset-In, offset-From, offset-Into, append_assoc, append-nil)
 
-pub reference-Plain : (e : _) (t : _) (v : _) (p : _) (ns : _) → reference_code e t (reference_of (R.Plain v p ns)) ≡ subscripted e t (variable_of v) (part_of p) (numbers_of ns)
-unfolding reference_of subscripted element_reached
-reference-Plain e t v p ns = refl
+pub reference-is : (e : _) (t : _) (r : _) → reference_code e t r ≡ waiting_locator e t r ++ behind e t r
+unfolding behind reached_by standing_before waiting_locator locator_of waiting_at subscripted element_reached
+reference-is e t (Y.Referring v Y.NotLocated part subscripts) = refl
+reference-is e t (Y.Referring v (Y.LocatedBy p) part subscripts) =
+    at_pointer e t p v part subscripts (standing_behind e p subscripts)
 
-pub reference-Located : (e : _) (t : _) (a : _) (l : _) (v : _) (p : _) (ns : _)
-    → reference_code e t (reference_of (R.Located' a l v p ns))
-    ≡ located_reached e t (pointer_of l) (variable_of v) (part_of p) (numbers_of ns)
-    (standing_behind e (pointer_of l) (numbers_of ns))
-unfolding reference_of
-reference-Located e t a l v p ns =
-    at_pointer e t (pointer_of l) (variable_of v) (part_of p) (numbers_of ns)
-    (standing_behind e (pointer_of l) (numbers_of ns))
+pub ruleset references = (reference-is, append_assoc, append-nil)
 
-pub ruleset references = (reference-Plain, reference-Located, append_assoc, append-nil)
+pub before-Plain : (e : _) (v : _) (p : _) (ns : _) → standing_before e (reference_of (R.Plain v p ns)) ≡ None
+unfolding reference_of standing_before
+before-Plain e v p ns = refl
 
-pub reached-Some : (e : _) (t : _) (p : _) (v : _) (part : _) (ns : _) (n : _)
-    → located_reached e t p v part ns (Some n) ≡ subscripts_code e t ns ++ standing_reached e n t v part ns
-unfolding located_reached
-reached-Some e t p v part ns n = refl
+pub before-Located : (e : _) (a : _) (l : _) (v : _) (p : _) (ns : _)
+    → standing_before e (reference_of (R.Located' a l v p ns)) ≡ standing_behind e (pointer_of l) (numbers_of ns)
+unfolding reference_of standing_before
+before-Located e a l v p ns = refl
 
-pub reached-None : (e : _) (t : _) (p : _) (v : _) (part : _) (ns : _) → located_reached e t p v part ns None
-    ≡ pointer_code e t p ++ subscripted e t v part ns
-unfolding located_reached
-reached-None e t p v part ns = refl
+pub ruleset before = (before-Plain, before-Located)
+
+pub at-Plain : (e : _) (t : _) (v : _) (p : _) (ns : _) (n : _) → standing_at e t (reference_of (R.Plain v p ns)) n
+    ≡ subscripts_code e t (numbers_of ns) ++ standing_reached e n t (variable_of v) (part_of p) (numbers_of ns)
+unfolding reference_of standing_at
+at-Plain e t v p ns n = refl
+
+pub at-Located : (e : _) (t : _) (a : _) (l : _) (v : _) (p : _) (ns : _) (n : _)
+    → standing_at e t (reference_of (R.Located' a l v p ns)) n
+    ≡ subscripts_code e t (numbers_of ns) ++ standing_reached e n t (variable_of v) (part_of p) (numbers_of ns)
+unfolding reference_of standing_at
+at-Located e t a l v p ns n = refl
+
+pub waiting-Plain : (e : _) (t : _) (v : _) (p : _) (ns : _) → waiting_at e t (reference_of (R.Plain v p ns))
+    ≡ subscripted e t (variable_of v) (part_of p) (numbers_of ns)
+unfolding reference_of waiting_at
+waiting-Plain e t v p ns = refl
+
+pub waiting-Located : (e : _) (t : _) (a : _) (l : _) (v : _) (p : _) (ns : _)
+    → waiting_at e t (reference_of (R.Located' a l v p ns))
+    ≡ subscripted e t (variable_of v) (part_of p) (numbers_of ns)
+unfolding reference_of waiting_at
+waiting-Located e t a l v p ns = refl
+
+pub ruleset elements = (at-Plain, at-Located, waiting-Plain, waiting-Located, append_assoc, append-nil)
+
+pub waiting_locator-is : (e : _) (t : _) (r : _)
+    → waiting_locator e t r ≡ (if is_some (standing_before e r) then [] else locator_of e t r)
+unfolding waiting_locator
+waiting_locator-is e t r = refl
+
+pub behind-is : (e : _) (t : _) (r : _) → behind e t r ≡ reached_by e t r (standing_before e r)
+unfolding behind
+behind-is e t r = refl
+
+pub ruleset behind_locators = (waiting_locator-is, behind-is, append_assoc, append-nil)
+
+pub ruleset parts = (append_assoc, append-nil)
+
+pub reached-Some : (e : _) (t : _) (r : _) (n : _) → reached_by e t r (Some n) ≡ standing_at e t r n
+unfolding reached_by
+reached-Some e t r n = refl
+
+pub reached-None : (e : _) (t : _) (r : _) → reached_by e t r None ≡ waiting_at e t r
+unfolding reached_by
+reached-None e t r = refl
 
 pub kept-Some : (e : _) (t : _) (z : _) (r : _) (n : _) → address_kept e t z r (Some n) ≡ standing_named e n z r
 unfolding address_kept

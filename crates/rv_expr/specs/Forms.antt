@@ -1,12 +1,12 @@
 -- Parts of the code of expressions that several forms share.
-use Rattle.std.specs.Prelude.{ℤ, Bool, [], ◌++◌, Option, Some, None, unwrap_or, if◌then◌else◌}
+use Rattle.std.specs.Prelude.{ℤ, Bool, [], ◌++◌, Option, Some, None, is_some, unwrap_or, if◌then◌else◌}
 use Rattle.pli_typing.specs.TypedTree as Y
 use Rattle.pli_coding.specs.Registers.{a0, u1}
 use Rattle.pli_coding.specs.Assembly.{Code}
 use Rattle.pli_coding.specs.Environments.{Environment, Taken, with_words, with_number, save, fetch}
 use Rattle.pli_coding.specs.Locating.{NamePlace, FrameName, behind_locator, waiting_name}
 use Rattle.pli_coding.specs.Expressions.{bit_code, is_null, left_standing, locator_code, number_code, own_standing}
-use Rattle.pli_coding.specs.Expressions.{pointer_code, subscripts_code}
+use Rattle.pli_coding.specs.Expressions.{pointer_code, standing_behind, subscripts_code}
 use Rattle.rv_operation.specs.Pieces.{element_reached, name_to_offset, null_compared, part_named, places_compared}
 use Rattle.rv_operation.specs.Pieces.{standing_named, standing_reached}
 
@@ -26,12 +26,31 @@ subscripted e t v part subscripts =
 unfoldable pub locator_of : Environment → Taken → Y.Reference → Code
 locator_of e t (Y.Referring v locator part subscripts) = locator_code e t locator
 
--- an element of a BASED variable behind its locator, whose name stands there, or waits
-unfoldable pub located_reached : Environment → Taken → Y.Pointer → Y.Variable → Y.Part → Y.Numbers → Option NamePlace
-    → Code
-located_reached e t p v part subscripts (Some name) =
+-- where the name of the locator stands, if an element is reached from there
+unfoldable pub standing_before : Environment → Y.Reference → Option NamePlace
+standing_before e (Y.Referring v Y.NotLocated part subscripts) = None
+standing_before e (Y.Referring v (Y.LocatedBy p) part subscripts) = standing_behind e p subscripts
+
+-- the locator of a reference, where its name waits
+unfoldable pub waiting_locator : Environment → Taken → Y.Reference → Code
+waiting_locator e t r = if is_some (standing_before e r) then [] else locator_of e t r
+
+-- an element of a BASED variable whose locator's name stands there
+unfoldable pub standing_at : Environment → Taken → Y.Reference → NamePlace → Code
+standing_at e t (Y.Referring v locator part subscripts) name =
     subscripts_code e t subscripts ++ standing_reached e name t v part subscripts
-located_reached e t p v part subscripts None = pointer_code e t p ++ subscripted e t v part subscripts
+
+-- an element whose locator's name waits, or that has none
+unfoldable pub waiting_at : Environment → Taken → Y.Reference → Code
+waiting_at e t (Y.Referring v locator part subscripts) = subscripted e t v part subscripts
+
+unfoldable pub reached_by : Environment → Taken → Y.Reference → Option NamePlace → Code
+reached_by e t r (Some name) = standing_at e t r name
+reached_by e t r None = waiting_at e t r
+
+-- an element, behind the code of its locator
+unfoldable pub behind : Environment → Taken → Y.Reference → Code
+behind e t r = reached_by e t r (standing_before e r)
 
 -- a name that is compared, where it stands, or waits
 unfoldable pub operand_kept : Environment → Taken → Y.Pointer → Option ℤ → Code

@@ -1,48 +1,50 @@
 // The code of expressions. A number, a bit or an OFFSET value comes in a0, a text on top of the text stack, and a POINTER value in
 // the four words of the frame behind the temporaries in use.
 
-ghost use Rattle.std.specs.Prelude.{◌≡◌, ◌++◌, OnOk};
+ghost use Rattle.std.specs.Prelude.{◌≡◌, ◌++◌, is_some, OnOk, IfOk};
 ghost use Rattle.pli_language.specs.View.{option_of};
 ghost use Rattle.pli_typing.specs.TypedTree as Y;
-ghost use Rattle.pli_typing.specs.TypedView.{argument_of, arguments_of, bit_of, extremum_of, number_of, numbers_of, part_of, pointer_of, reference_of, stored_of, text_of, variable_of};
+ghost use Rattle.pli_typing.specs.TypedView.{argument_of, arguments_of, bit_of, number_of, numbers_of, part_of};
+ghost use Rattle.pli_typing.specs.TypedView.{reference_of, stored_of, text_of, variable_of};
 ghost use Rattle.pli_coding.specs.Expressions as form;
 ghost use Rattle.pli_frames.specs.TakenView.{taken_of};
 ghost use Rattle.rv_address.specs.Around.{environment_of};
 ghost use Rattle.rv_address.specs.Places.{name_of};
 ghost use Rattle.rv_operation.specs.Asked.{list_of};
-ghost use Rattle.rv_expr.specs.Forms.{both_bits, both_numbers, located_reached, locator_of, subscripted};
+ghost use Rattle.rv_operation.specs.Pieces.{value_loaded};
+ghost use Rattle.rv_expr.specs.Forms.{behind, locator_of, reached_by, standing_at, standing_before, subscripted};
+ghost use Rattle.rv_expr.specs.Forms.{waiting_at, waiting_locator};
 
+use crate::bit::{
+    bits_compared, both_offsets_compared, both_texts_compared, combined_bit, negated_bit,
+    numbers_compared, text_bit,
+};
 use crate::locator::{offset_code, pointer_code, pointers_compared};
+use crate::number::{
+    absolute_number, bound_number, calculated_number, divided_number, extreme_number, index_number,
+    length_number, modulo_number, sign_number, signed_number, text_number, verify_number,
+};
+use crate::text::{bit_text, end_text, joined_text, number_text, part_text, text_in};
 use pli_frames::taken::Taken;
 use pli_frames::temporaries::behind_locator;
 use pli_typing::typed::{
-    Argument, Arguments, Bit, Callee, Extremum, Number, Numbers, Part, Pointer, Reference, Stored,
-    Text, Variable,
+    Argument, Arguments, Bit, Callee, Number, Numbers, Part, Reference, Stored, Text, Variable,
 };
 use rv_address::environment::Environment;
 use rv_address::names::NamePlace;
 use rv_address::subscript::is_given;
-use rv_address::taken::{fetch, save};
+use rv_address::taken::save;
 use rv_assembly::code::Code;
-use rv_assembly::registers::{a0, u1};
+use rv_assembly::registers::a0;
 use rv_operation::argument::{
     ArgumentList, arguments_entered, is_copy, list_at, name_to_argument, part_given,
     value_to_argument,
 };
-use rv_operation::arithmetic::{
-    absolute_code, calculated_code, combined_code, compared_code, divided_code, extreme_kept,
-    fitted_code, modulo_code, negated_code, sign_code, signed_code,
-};
+use rv_operation::arithmetic::fitted_code;
 use rv_operation::constant::{bit_constant, generations_counted, number_constant};
-use rv_operation::pointer::offsets_compared;
-use rv_operation::reference::{
-    BoundAsked, bound_told, element_reached, standing_reached, text_loaded, value_loaded,
-};
+use rv_operation::reference::{BoundAsked, element_reached, standing_reached, value_loaded};
 use rv_operation::standing::standing_behind;
-use rv_operation::text::{
-    bit_pushed, constant_pushed, end_cut, index_found, number_pushed, substring_cut, text_measured,
-    text_to_bit, text_to_number, texts_compared, verified,
-};
+use rv_operation::text::constant_pushed;
 use std::alloc::{AllocError, Global};
 
 /// A number, in a0.
@@ -59,146 +61,77 @@ pub fn number_code(
 {
     match number {
         Number::Constant(value) => number_constant(code, *value),
-        Number::In(reference) => {
-            reference_code(alloc, code, environment, taken, reference)?;
-            value_loaded(code, environment, reference)
-        }
+        Number::In(reference) => loaded_code(alloc, code, environment, taken, reference),
         Number::From { callee, arguments } => {
             call_code(alloc, code, environment, taken, *callee, arguments)
         }
-        Number::OfText(text) => {
-            text_code(alloc, code, environment, taken, text)?;
-            text_to_number(code)
-        }
+        Number::OfText(text) => text_number(alloc, code, environment, taken, text),
         Number::OfBit(bit) => bit_code(alloc, code, environment, taken, bit),
         Number::Signed { sign, operand } => {
-            number_code(alloc, code, environment, taken, operand)?;
-            signed_code(code, taken, *sign)
+            signed_number(alloc, code, environment, taken, *sign, operand)
         }
         Number::Calculated {
             operator,
             left,
             right,
-        } => {
-            both_numbers(alloc, code, environment, taken, left, right)?;
-            calculated_code(code, taken, *operator)
-        }
-        Number::Absolute(operand) => {
-            number_code(alloc, code, environment, taken, operand)?;
-            absolute_code(code, taken)
-        }
-        Number::SignOf(operand) => {
-            number_code(alloc, code, environment, taken, operand)?;
-            sign_code(code)
-        }
+        } => calculated_number(alloc, code, environment, taken, *operator, left, right),
+        Number::Absolute(operand) => absolute_number(alloc, code, environment, taken, operand),
+        Number::SignOf(operand) => sign_number(alloc, code, environment, taken, operand),
         Number::Extreme { which, first, more } => {
-            number_code(alloc, code, environment, taken, first)?;
-            extremes_code(alloc, code, environment, taken, *which, more)
+            extreme_number(alloc, code, environment, taken, *which, first, more)
         }
         Number::Modulo { dividend, divisor } => {
-            both_numbers(alloc, code, environment, taken, dividend, divisor)?;
-            modulo_code(code)
+            modulo_number(alloc, code, environment, taken, dividend, divisor)
         }
         Number::Divided {
             precision,
             dividend,
             divisor,
-        } => {
-            both_numbers(alloc, code, environment, taken, dividend, divisor)?;
-            divided_code(code, taken, *precision)
-        }
-        Number::LengthOf(text) => {
-            text_code(alloc, code, environment, taken, text)?;
-            text_measured(code)
-        }
+        } => divided_number(
+            alloc,
+            code,
+            environment,
+            taken,
+            *precision,
+            dividend,
+            divisor,
+        ),
+        Number::LengthOf(text) => length_number(alloc, code, environment, taken, text),
         Number::IndexOf { searched, sought } => {
-            text_code(alloc, code, environment, taken, searched)?;
-            text_code(alloc, code, environment, taken, sought)?;
-            index_found(code)
+            index_number(alloc, code, environment, taken, searched, sought)
         }
         Number::VerifyOf { searched, allowed } => {
-            text_code(alloc, code, environment, taken, searched)?;
-            text_code(alloc, code, environment, taken, allowed)?;
-            verified(code)
+            verify_number(alloc, code, environment, taken, searched, allowed)
         }
-        Number::LowerBound { array, dimension } => {
-            locator_code(alloc, code, environment, taken, array)?;
-            bound_told(
-                code,
-                environment,
-                taken,
-                array,
-                BoundAsked::Lower,
-                *dimension,
-            )
-        }
-        Number::UpperBound { array, dimension } => {
-            locator_code(alloc, code, environment, taken, array)?;
-            bound_told(
-                code,
-                environment,
-                taken,
-                array,
-                BoundAsked::Upper,
-                *dimension,
-            )
-        }
-        Number::ElementsOf { array, dimension } => {
-            locator_code(alloc, code, environment, taken, array)?;
-            bound_told(
-                code,
-                environment,
-                taken,
-                array,
-                BoundAsked::Elements,
-                *dimension,
-            )
-        }
+        Number::LowerBound { array, dimension } => bound_number(
+            alloc,
+            code,
+            environment,
+            taken,
+            array,
+            BoundAsked::Lower,
+            *dimension,
+        ),
+        Number::UpperBound { array, dimension } => bound_number(
+            alloc,
+            code,
+            environment,
+            taken,
+            array,
+            BoundAsked::Upper,
+            *dimension,
+        ),
+        Number::ElementsOf { array, dimension } => bound_number(
+            alloc,
+            code,
+            environment,
+            taken,
+            array,
+            BoundAsked::Elements,
+            *dimension,
+        ),
         Number::AllocationsOf(variable) => generations_counted(code, environment, *variable),
         Number::OnCode => code.service(33),
-    }
-}
-
-/// The left operand in u1 and the right one in a0.
-#[cycle(walk)]
-#[tactic(auto, using(crate::proofs::Walks::operands))]
-fn both_numbers(
-    alloc: Global,
-    code: &mut Code,
-    environment: &Environment,
-    taken: Taken,
-    left: &Number,
-    right: &Number,
-) -> Result<(), AllocError>
-    ensures { OnOk result (code.new ≡ code.old ++ both_numbers (environment_of environment.now) (taken_of taken) (number_of left.now) (number_of right.now)) }
-{
-    number_code(alloc, code, environment, taken, left)?;
-    save(code, a0(), taken)?;
-    number_code(alloc, code, environment, taken.with_number()?, right)?;
-    fetch(code, u1(), taken)
-}
-
-/// A value in a0, and one after the other of these, for MAX or MIN.
-#[cycle(walk)]
-#[tactic(auto, using(crate::proofs::Walks::extremes))]
-fn extremes_code(
-    alloc: Global,
-    code: &mut Code,
-    environment: &Environment,
-    taken: Taken,
-    which: Extremum,
-    more: &Numbers,
-) -> Result<(), AllocError>
-    ensures { OnOk result (code.new ≡ code.old ++ form.extremes_code (environment_of environment.now) (taken_of taken) (extremum_of which) (numbers_of more.now)) }
-{
-    match more {
-        Numbers::End => Ok(()),
-        Numbers::More { first, rest } => {
-            save(code, a0(), taken)?;
-            number_code(alloc, code, environment, taken.with_number()?, first)?;
-            extreme_kept(code, taken, which)?;
-            extremes_code(alloc, code, environment, taken, which, rest)
-        }
     }
 }
 
@@ -216,37 +149,25 @@ pub fn text_code(
 {
     match text {
         Text::Constant(bytes) => constant_pushed(alloc, code, bytes),
-        Text::In(reference) => {
-            reference_code(alloc, code, environment, taken, reference)?;
-            text_loaded(code, environment, reference)
-        }
+        Text::In(reference) => text_in(alloc, code, environment, taken, reference),
         Text::From { callee, arguments } => {
             call_code(alloc, code, environment, taken, *callee, arguments)
         }
         Text::OfNumber { precision, number } => {
-            number_code(alloc, code, environment, taken, number)?;
-            number_pushed(code, *precision)
+            number_text(alloc, code, environment, taken, *precision, number)
         }
-        Text::OfBit(bit) => {
-            bit_code(alloc, code, environment, taken, bit)?;
-            bit_pushed(code)
-        }
-        Text::Joined { left, right } => {
-            text_code(alloc, code, environment, taken, left)?;
-            text_code(alloc, code, environment, taken, right)?;
-            code.tested_service(22)
-        }
-        Text::SubstringFrom { text, start } => {
-            text_code(alloc, code, environment, taken, text)?;
-            number_code(alloc, code, environment, taken, start)?;
-            end_cut(code)
-        }
+        Text::OfBit(bit) => bit_text(alloc, code, environment, taken, bit),
+        Text::Joined { left, right } => joined_text(alloc, code, environment, taken, left, right),
+        Text::SubstringFrom { text, start } => end_text(
+            alloc,
+            code,
+            environment,
+            taken,
+            text,
+            start,
+        ),
         Text::Substring { text, start, count } => {
-            text_code(alloc, code, environment, taken, text)?;
-            number_code(alloc, code, environment, taken, start)?;
-            save(code, a0(), taken)?;
-            number_code(alloc, code, environment, taken.with_number()?, count)?;
-            substring_cut(code, taken)
+            part_text(alloc, code, environment, taken, text, start, count)
         }
     }
 }
@@ -265,83 +186,58 @@ pub fn bit_code(
 {
     match bit {
         Bit::Constant(value) => bit_constant(code, *value),
-        Bit::In(reference) => {
-            reference_code(alloc, code, environment, taken, reference)?;
-            value_loaded(code, environment, reference)
-        }
+        Bit::In(reference) => loaded_code(alloc, code, environment, taken, reference),
         Bit::From { callee, arguments } => {
             call_code(alloc, code, environment, taken, *callee, arguments)
         }
-        Bit::OfText(text) => {
-            text_code(alloc, code, environment, taken, text)?;
-            text_to_bit(code)
-        }
-        Bit::Negated(operand) => {
-            bit_code(alloc, code, environment, taken, operand)?;
-            negated_code(code)
-        }
+        Bit::OfText(text) => text_bit(alloc, code, environment, taken, text),
+        Bit::Negated(operand) => negated_bit(alloc, code, environment, taken, operand),
         Bit::Combined {
             operator,
             left,
             right,
-        } => {
-            both_bits(alloc, code, environment, taken, left, right)?;
-            combined_code(code, *operator)
-        }
+        } => combined_bit(alloc, code, environment, taken, *operator, left, right),
         Bit::NumbersCompared {
             comparison,
             left,
             right,
-        } => {
-            both_numbers(alloc, code, environment, taken, left, right)?;
-            compared_code(code, *comparison)
-        }
+        } => numbers_compared(alloc, code, environment, taken, *comparison, left, right),
         Bit::TextsCompared {
             comparison,
             left,
             right,
-        } => {
-            text_code(alloc, code, environment, taken, left)?;
-            text_code(alloc, code, environment, taken, right)?;
-            texts_compared(code, *comparison)
-        }
+        } => both_texts_compared(alloc, code, environment, taken, *comparison, left, right),
         Bit::BitsCompared {
             comparison,
             left,
             right,
-        } => {
-            both_bits(alloc, code, environment, taken, left, right)?;
-            compared_code(code, *comparison)
-        }
+        } => bits_compared(alloc, code, environment, taken, *comparison, left, right),
         Bit::PointersCompared { equal, left, right } => {
             pointers_compared(alloc, code, environment, taken, *equal, left, right)
         }
         Bit::OffsetsCompared { equal, left, right } => {
-            offset_code(alloc, code, environment, taken, left)?;
-            save(code, a0(), taken)?;
-            offset_code(alloc, code, environment, taken.with_number()?, right)?;
-            offsets_compared(code, taken, *equal)
+            both_offsets_compared(alloc, code, environment, taken, *equal, left, right)
         }
     }
 }
 
-/// The left operand in u1 and the right one in a0.
+/// The value of a number, bit or OFFSET variable, in a0.
 #[cycle(walk)]
-#[tactic(auto, using(crate::proofs::Walks::operands))]
-fn both_bits(
+#[inline(never)]
+#[tactic(auto, using(crate::proofs::Walks::parts))]
+pub(crate) fn loaded_code(
     alloc: Global,
     code: &mut Code,
     environment: &Environment,
     taken: Taken,
-    left: &Bit,
-    right: &Bit,
+    reference: &Reference,
 ) -> Result<(), AllocError>
-    ensures { OnOk result (code.new ≡ code.old ++ both_bits (environment_of environment.now) (taken_of taken) (bit_of left.now) (bit_of right.now)) }
+    ensures { OnOk result (code.new ≡ code.old ++ (form.reference_code (environment_of environment.now)
+        (taken_of taken) (reference_of reference.now)
+        ++ value_loaded (environment_of environment.now) (reference_of reference.now))) }
 {
-    bit_code(alloc, code, environment, taken, left)?;
-    save(code, a0(), taken)?;
-    bit_code(alloc, code, environment, taken.with_number()?, right)?;
-    fetch(code, u1(), taken)
+    reference_code(alloc, code, environment, taken, reference)?;
+    value_loaded(code, environment, reference)
 }
 
 /// An element, or the first leaf of a part: the locator, then the subscripts, then the checks.
@@ -355,6 +251,147 @@ pub fn reference_code(
     reference: &Reference,
 ) -> Result<(), AllocError>
     ensures { OnOk result (code.new ≡ code.old ++ form.reference_code (environment_of environment.now) (taken_of taken) (reference_of reference.now)) }
+{
+    waiting_locator(alloc, code, environment, taken, reference)?;
+    behind_code(alloc, code, environment, taken, reference)
+}
+
+/// Where the name of the locator stands, if an element is reached from there.
+#[inline(never)]
+#[tactic(auto, using(crate::proofs::Walks::before))]
+fn standing_before(
+    environment: &Environment,
+    reference: &Reference,
+) -> Result<Option<NamePlace>, AllocError>
+    ensures { IfOk result (λ n. option_of name_of n ≡ standing_before (environment_of environment.now)
+        (reference_of reference.now)) }
+{
+    match reference {
+        Reference::Plain { .. } => Ok(None),
+        Reference::Located {
+            locator,
+            subscripts,
+            ..
+        } => standing_behind(environment, locator, subscripts),
+    }
+}
+
+#[inline(never)]
+fn is_standing(environment: &Environment, reference: &Reference) -> Result<bool, AllocError>
+    ensures { IfOk result (λ b. b ≡ is_some (standing_before (environment_of environment.now)
+        (reference_of reference.now))) }
+{
+    match standing_before(environment, reference)? {
+        Some(_) => Ok(true),
+        None => Ok(false),
+    }
+}
+
+/// The locator of a reference, where its name waits.
+#[cycle(walk)]
+#[inline(never)]
+#[tactic(auto, using(crate::proofs::Walks::behind_locators))]
+fn waiting_locator(
+    alloc: Global,
+    code: &mut Code,
+    environment: &Environment,
+    taken: Taken,
+    reference: &Reference,
+) -> Result<(), AllocError>
+    ensures { OnOk result (code.new ≡ code.old ++ waiting_locator (environment_of environment.now)
+        (taken_of taken) (reference_of reference.now)) }
+{
+    if is_standing(environment, reference)? {
+        return Ok(());
+    }
+    locator_code(alloc, code, environment, taken, reference)
+}
+
+/// An element, behind the code of its locator.
+#[cycle(walk)]
+#[inline(never)]
+#[tactic(auto, using(crate::proofs::Walks::behind_locators))]
+fn behind_code(
+    alloc: Global,
+    code: &mut Code,
+    environment: &Environment,
+    taken: Taken,
+    reference: &Reference,
+) -> Result<(), AllocError>
+    ensures { OnOk result (code.new ≡ code.old ++ behind (environment_of environment.now) (taken_of taken)
+        (reference_of reference.now)) }
+{
+    let standing = standing_before(environment, reference)?;
+    reached_code(alloc, code, environment, taken, reference, standing)
+}
+
+/// An element behind the code of its locator, whose name stands there, or else waits.
+#[cycle(walk)]
+#[tactic(auto, using(crate::proofs::Walks::standing))]
+fn reached_code(
+    alloc: Global,
+    code: &mut Code,
+    environment: &Environment,
+    taken: Taken,
+    reference: &Reference,
+    standing: Option<NamePlace>,
+) -> Result<(), AllocError>
+    ensures { OnOk result (code.new ≡ code.old ++ reached_by (environment_of environment.now) (taken_of taken)
+        (reference_of reference.now) (option_of name_of standing)) }
+{
+    match standing {
+        Some(name) => standing_code(alloc, code, environment, taken, reference, name),
+        None => waiting_code(alloc, code, environment, taken, reference),
+    }
+}
+
+/// An element of a BASED variable whose locator's name stands there.
+#[cycle(walk)]
+#[tactic(auto, using(crate::proofs::Walks::elements))]
+fn standing_code(
+    alloc: Global,
+    code: &mut Code,
+    environment: &Environment,
+    taken: Taken,
+    reference: &Reference,
+    name: NamePlace,
+) -> Result<(), AllocError>
+    ensures { OnOk result (code.new ≡ code.old ++ standing_at (environment_of environment.now) (taken_of taken)
+        (reference_of reference.now) (name_of name)) }
+{
+    match reference {
+        Reference::Plain {
+            variable,
+            part,
+            subscripts,
+        } => {
+            subscripts_code(alloc, code, environment, taken, subscripts)?;
+            standing_reached(code, environment, name, taken, *variable, *part, subscripts)
+        }
+        Reference::Located {
+            variable,
+            part,
+            subscripts,
+            ..
+        } => {
+            subscripts_code(alloc, code, environment, taken, subscripts)?;
+            standing_reached(code, environment, name, taken, *variable, *part, subscripts)
+        }
+    }
+}
+
+/// An element whose locator's name waits, or that has none.
+#[cycle(walk)]
+#[tactic(auto, using(crate::proofs::Walks::elements))]
+fn waiting_code(
+    alloc: Global,
+    code: &mut Code,
+    environment: &Environment,
+    taken: Taken,
+    reference: &Reference,
+) -> Result<(), AllocError>
+    ensures { OnOk result (code.new ≡ code.old ++ waiting_at (environment_of environment.now) (taken_of taken)
+        (reference_of reference.now)) }
 {
     match reference {
         Reference::Plain {
@@ -371,52 +408,19 @@ pub fn reference_code(
             subscripts,
         ),
         Reference::Located {
-            locator,
             variable,
             part,
             subscripts,
-        } => {
-            let standing = standing_behind(environment, locator, subscripts)?;
-            located_reached(
-                alloc,
-                code,
-                environment,
-                taken,
-                locator,
-                *variable,
-                *part,
-                subscripts,
-                standing,
-            )
-        }
-    }
-}
-
-/// An element of a BASED variable behind its locator, whose name stands there, or else waits.
-#[cycle(walk)]
-#[tactic(auto, using(crate::proofs::Walks::standing))]
-fn located_reached(
-    alloc: Global,
-    code: &mut Code,
-    environment: &Environment,
-    taken: Taken,
-    locator: &Pointer,
-    variable: Variable,
-    part: Part,
-    subscripts: &Numbers,
-    standing: Option<NamePlace>,
-) -> Result<(), AllocError>
-    ensures { OnOk result (code.new ≡ code.old ++ located_reached (environment_of environment.now) (taken_of taken) (pointer_of locator.now) (variable_of variable) (part_of part) (numbers_of subscripts.now) (option_of name_of standing)) }
-{
-    match standing {
-        Some(name) => {
-            subscripts_code(alloc, code, environment, taken, subscripts)?;
-            standing_reached(code, environment, name, taken, variable, part, subscripts)
-        }
-        None => {
-            pointer_code(alloc, code, environment, taken, locator)?;
-            subscripted_code(alloc, code, environment, taken, variable, part, subscripts)
-        }
+            ..
+        } => subscripted_code(
+            alloc,
+            code,
+            environment,
+            taken,
+            *variable,
+            *part,
+            subscripts,
+        ),
     }
 }
 

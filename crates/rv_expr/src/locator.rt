@@ -3,18 +3,21 @@
 
 ghost use Rattle.std.specs.Prelude.{◌≡◌, ◌++◌, OnOk};
 ghost use Rattle.pli_language.specs.View.{option_of};
-ghost use Rattle.pli_typing.specs.TypedView.{offset_of, pointer_of, reference_of, variable_of};
+ghost use Rattle.pli_typing.specs.TypedTree as Y;
+ghost use Rattle.pli_typing.specs.TypedView.{arguments_of, offset_of, pointer_of, reference_of, variable_of};
 ghost use Rattle.pli_coding.specs.Expressions as form;
+ghost use Rattle.pli_coding.specs.Expressions.{standing_name};
 ghost use Rattle.pli_frames.specs.TakenView.{taken_of};
 ghost use Rattle.rv_address.specs.Around.{environment_of};
 ghost use Rattle.rv_address.specs.Places.{name_of};
-ghost use Rattle.rv_operation.specs.Standing.{place_of};
+ghost use Rattle.rv_operation.specs.Pieces.{name_kept, offset_to_name, result_kept};
+ghost use Rattle.rv_operation.specs.Standing.{locator_in, place_of};
 ghost use Rattle.rv_expr.specs.Forms.{address_kept, names_told, null_told, offset_told, operand_kept};
 ghost use Rattle.rv_expr.specs.Forms.{pointers_compared};
 
-use crate::expression::{call_code, locator_code, reference_code};
+use crate::expression::{call_code, loaded_code, locator_code, reference_code};
 use pli_frames::taken::Taken;
-use pli_typing::typed::{Offset, Pointer, Reference, Variable};
+use pli_typing::typed::{Arguments, Callee, Offset, Pointer, Reference, Variable};
 use rv_address::environment::Environment;
 use rv_address::names::NamePlace;
 use rv_address::transfer::Address;
@@ -24,7 +27,7 @@ use rv_operation::pointer::{
     name_to_offset, null_compared, null_kept, offset_to_name, places_compared, result_kept,
     waiting_address, waiting_place,
 };
-use rv_operation::reference::{name_kept, part_named, standing_named, value_loaded};
+use rv_operation::reference::{name_kept, part_named, standing_named};
 use rv_operation::standing::{
     is_null, left_standing, own_standing, place_or_waiting, standing_locator, standing_name,
 };
@@ -32,6 +35,7 @@ use std::alloc::{AllocError, Global};
 
 /// Whether two names are equal, or whether they aren't.
 #[cycle(walk)]
+#[inline(never)]
 #[tactic(auto, unfolding(crate::specs::Forms::pointers_compared))]
 pub(crate) fn pointers_compared(
     alloc: Global,
@@ -161,23 +165,113 @@ pub fn pointer_to(
 {
     match pointer {
         Pointer::Null => null_kept(code, to),
-        Pointer::In(reference) => {
-            reference_code(alloc, code, environment, taken, reference)?;
-            name_kept(code, environment, to, reference)
-        }
+        Pointer::In(reference) => pointer_in(alloc, code, environment, taken, to, reference),
         Pointer::From { callee, arguments } => {
-            call_code(alloc, code, environment, taken, *callee, arguments)?;
-            result_kept(code, to)
+            pointer_from(alloc, code, environment, taken, to, *callee, arguments)
         }
         Pointer::AddressOf(reference) => {
-            let standing = standing_locator(environment, reference)?;
-            address_kept(alloc, code, environment, taken, to, reference, standing)
+            address_code(alloc, code, environment, taken, to, reference)
         }
         Pointer::Into { offset, area } => {
-            offset_code(alloc, code, environment, taken, offset)?;
-            offset_to_name(code, environment, taken, to, *area)
+            pointer_into(alloc, code, environment, taken, to, offset, area)
         }
     }
+}
+
+/// The name in a POINTER variable.
+#[cycle(walk)]
+#[inline(never)]
+#[tactic(auto, using(crate::proofs::Walks::parts))]
+fn pointer_in(
+    alloc: Global,
+    code: &mut Code,
+    environment: &Environment,
+    taken: Taken,
+    to: Address,
+    reference: &Reference,
+) -> Result<(), AllocError>
+    ensures { OnOk result (code.new ≡ code.old ++
+        (form.reference_code (environment_of environment.now) (taken_of taken) (reference_of reference.now)
+        ++ name_kept (environment_of environment.now) to.displacement
+        (reference_of reference.now))) }
+{
+    reference_code(alloc, code, environment, taken, reference)?;
+    name_kept(code, environment, to, reference)
+}
+
+/// The name that a function returns.
+#[cycle(walk)]
+#[inline(never)]
+#[tactic(auto, using(crate::proofs::Walks::parts))]
+fn pointer_from(
+    alloc: Global,
+    code: &mut Code,
+    environment: &Environment,
+    taken: Taken,
+    to: Address,
+    callee: Callee,
+    arguments: &Arguments,
+) -> Result<(), AllocError>
+    ensures { OnOk result (code.new ≡ code.old ++ (form.call_code (environment_of environment.now) (taken_of taken)
+        (Y.Calling callee.procedure callee.level (arguments_of arguments.now)) ++ result_kept to.displacement)) }
+{
+    call_code(alloc, code, environment, taken, callee, arguments)?;
+    result_kept(code, to)
+}
+
+/// ADDR of a reference.
+#[cycle(walk)]
+#[inline(never)]
+#[tactic(auto, using(crate::proofs::Walks::parts))]
+fn address_code(
+    alloc: Global,
+    code: &mut Code,
+    environment: &Environment,
+    taken: Taken,
+    to: Address,
+    reference: &Reference,
+) -> Result<(), AllocError>
+    ensures { OnOk result (code.new ≡ code.old ++ address_kept (environment_of environment.now)
+        (taken_of taken) to.displacement (reference_of reference.now)
+        (locator_in (environment_of environment.now) (reference_of reference.now))) }
+{
+    let standing = standing_locator(environment, reference)?;
+    address_kept(alloc, code, environment, taken, to, reference, standing)
+}
+
+/// The name of what an OFFSET value tells in an area.
+#[cycle(walk)]
+#[inline(never)]
+#[tactic(auto, using(crate::proofs::Walks::parts))]
+fn pointer_into(
+    alloc: Global,
+    code: &mut Code,
+    environment: &Environment,
+    taken: Taken,
+    to: Address,
+    offset: &Offset,
+    area: &Variable,
+) -> Result<(), AllocError>
+    ensures { OnOk result (code.new ≡ code.old ++ (form.offset_code (environment_of environment.now) (taken_of taken)
+        (offset_of offset.now) ++ offset_to_name (environment_of environment.now) (taken_of taken) to.displacement
+        (variable_of area.now))) }
+{
+    offset_code(alloc, code, environment, taken, offset)?;
+    offset_named(code, environment, taken, to, area)
+}
+
+#[inline(never)]
+fn offset_named(
+    code: &mut Code,
+    environment: &Environment,
+    taken: Taken,
+    to: Address,
+    area: &Variable,
+) -> Result<(), AllocError>
+    ensures { OnOk result (code.new ≡ code.old ++ offset_to_name (environment_of environment.now) (taken_of taken)
+        to.displacement (variable_of area.now)) }
+{
+    offset_to_name(code, environment, taken, to, *area)
 }
 
 /// ADDR of a reference, where its locator's name stands, or else waits.
@@ -219,18 +313,34 @@ pub fn offset_code(
 {
     match offset {
         Offset::Null => code.constant(a0(), -1),
-        Offset::In(reference) => {
-            reference_code(alloc, code, environment, taken, reference)?;
-            value_loaded(code, environment, reference)
-        }
+        Offset::In(reference) => loaded_code(alloc, code, environment, taken, reference),
         Offset::From { callee, arguments } => {
             call_code(alloc, code, environment, taken, *callee, arguments)
         }
         Offset::Into { pointer, area } => {
-            let standing = standing_name(environment, pointer)?;
-            offset_told(alloc, code, environment, taken, pointer, *area, standing)
+            offset_into(alloc, code, environment, taken, pointer, *area)
         }
     }
+}
+
+/// The offset in an area of what a name tells.
+#[cycle(walk)]
+#[inline(never)]
+#[tactic(auto, using(crate::proofs::Walks::parts))]
+fn offset_into(
+    alloc: Global,
+    code: &mut Code,
+    environment: &Environment,
+    taken: Taken,
+    pointer: &Pointer,
+    area: Variable,
+) -> Result<(), AllocError>
+    ensures { OnOk result (code.new ≡ code.old ++ offset_told (environment_of environment.now) (taken_of taken)
+        (pointer_of pointer.now) (variable_of area)
+        (standing_name (environment_of environment.now) (pointer_of pointer.now))) }
+{
+    let standing = standing_name(environment, pointer)?;
+    offset_told(alloc, code, environment, taken, pointer, area, standing)
 }
 
 /// The offset of a name in an area, where it stands, or else waits.
