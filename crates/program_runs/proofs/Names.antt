@@ -39,7 +39,7 @@ use Rattle.program_runs.specs.Variables.{place_behind}
 use Rattle.program_runs.proofs.VariableMemory.{Around, fits_block, frames_grown, frames_stay, made_holding}
 use Rattle.program_runs.proofs.VariableMemory.{made_memory, place_small, told_there}
 use Rattle.program_runs.proofs.VariableProcedures.{one_by}
-use Rattle.program_runs.proofs.Variables.{Becomes, becomes_comes}
+use Rattle.program_runs.proofs.Variables.{Becomes, becomes_comes, without_initial}
 
 -- ---- its words
 
@@ -259,14 +259,16 @@ pub name_comes :
     (services_of (named_point w.parts φ x p))
     (λ b y. IsIn w (named_point w.parts φ x p) numbers (index + size_of (constant_made e x.place x.declared)) b y)
 name_comes w code e p numbers x φ φs credits index f known is few same l there =
-    becomes_comes w code e p (named_point w.parts φ x p) numbers x φ φs credits index f known is
-    (named_becomes (record { stands = known.0; image = known.1; is = is }) few) same l there
+    let may = without_initial w code p x φ φs is in
+    becomes_comes w code e p (named_point w.parts φ x p) numbers x φ φs credits index f known may
+    (named_becomes (record { stands = known.0; image = known.1; is = may }) few) same l there
 
 pub name_stands :
     (w : Surroundings) (code : List Instr) (p : Point) (x : Declared) (φ : Layer) (φs : List Layer) →
     Stands w p × IsImage w code p → IsDeclared w p x φ φs →
     Stands w (named_point w.parts φ x p) × IsImage w code (named_point w.parts φ x p)
-name_stands w code p x φ φs known is = named_stands (record { stands = known.0; image = known.1; is = is })
+name_stands w code p x φ φs known is =
+    named_stands (record { stands = known.0; image = known.1; is = without_initial w code p x φ φs is })
 
 pub one_named :
     (w : Surroundings) (code : List Instr) (c : Callee) (p : Point) (numbers : ℕ → ℕ) (x : Declared) →
@@ -277,4 +279,8 @@ one_named w code c p numbers x h =
     one_by w code (record c { made = newest_made w.parts x }) c.made p numbers x
     (name_told x.place (p.state.serials + 1) φ.told) h.only
     (ap (λ (made : Point → Point). made start) h.made)
-    (λ known. named_becomes (record { stands = known.0; image = known.1; is = h.only.declared }) h.serial)
+    (λ known. named_becomes (record {
+      stands = known.0;
+      image = known.1;
+      is = without_initial w code start x φ p.control.layers h.only.declared;
+    }) h.serial)
