@@ -131,7 +131,8 @@ words_beside g y first xs h =
     let more = all_bind_more w e q φ xs a as' bs first first h.listed (omega arith)
     (record { bindings = bs; active = b.activations; others = λ i less. refl }) in
     let remain : (p : Point) → length p.state.activations ≤ length as' → Stands w q → Remains p q → Remains p r =
-    λ p low stands remains. all_remain w p q φ φs xs a as' h.declared binds (omega (arith, low)) stands.lives remains in
+    λ p low stands remains. all_remain w y.code p q φ φs xs a as' h.declared binds (omega (arith, low)) stands.lives
+    remains in
     let count = all_serials w q φ xs in
     let each = h.few in
     let serials = b.serials in
@@ -149,7 +150,7 @@ words_beside g y first xs h =
           h.parts known (subst (Linked w.links y.code (variables_index y.callee)) h.code l) there));
       means = block_means (at_line y.callee.around y.callee.procedure.head.line) y.callee.procedure.head w.acts q.state
           r.state h.kind
-          (all_mean (at_line y.callee.around y.callee.procedure.head.line) w e q φ φs xs
+          (all_mean (at_line y.callee.around y.callee.procedure.head.line) w y.code e q φ φs xs
           (variables_of_block y.callee.around.program y.callee.procedure.head.number) 0 first w.acts h.declared h.listed
           h.those)
           ∙ ap (λ (u : Point). Normal tt u.state) (sym here);

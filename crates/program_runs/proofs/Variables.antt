@@ -122,33 +122,33 @@ own_comes {w} {p} {numbers = numbers} {rs = rs} h c f r place few near free far 
 
 -- ---- what service 7 is given
 
-abbrev name_code : Declared → Code
+abbrev pub name_code : Declared → Code
 name_code x = own_code a0 x.place
 
-abbrev data_code : Declared → Code
+abbrev pub data_code : Declared → Code
 data_code x = own_code a3 (x.place + name_bytes)
 
-abbrev stack_code : MemoryParts → Declared → Code
+abbrev pub stack_code : MemoryParts → Declared → Code
 stack_code parts x = plus stack_register frame_register (pos (place_behind parts x))
 
-abbrev asking_code : Declared → Code
+abbrev pub asking_code : Declared → Code
 asking_code x = small a4 0 ∷ small a7 7 ∷ []
 
-abbrev behind_data : MemoryParts → Declared → Code
+abbrev pub behind_data : MemoryParts → Declared → Code
 behind_data parts x = small a4 0 ∷ small a7 7 ∷ Plain I.Ecall ∷ stack_code parts x
 
 -- where the values stand that it begins with, or 0
-abbrev given_code : Declared → Code
+abbrev pub given_code : Declared → Code
 given_code x = initial_code a2 x.declared
 
-abbrev given_place : Links → Declared → ℕ
+abbrev pub given_place : Links → Declared → ℕ
 given_place links x = place_if links.data' (initial_datum x.declared)
 
-abbrev made_code : MemoryParts → Declared → Code
+abbrev pub made_code : MemoryParts → Declared → Code
 made_code parts x =
     name_code x ++ (number a1 x.number ++ (given_code x ++ (data_code x ++ behind_data parts x)))
 
-made_coded :
+pub made_coded :
     (w : Surroundings) (e : Environment) (x : Declared) →
     (table_number e x.declared ≡ x.number) × (e.parts ≡ w.parts) →
     constant_made e x.place x.declared ≡ made_code w.parts x
@@ -163,20 +163,20 @@ made_coded w e x same =
     ∙ ap (λ parts. name_code x ++ (number a1 x.number ++ (given_code x ++ (data_code x ++ rest parts)))) same.1
 
 -- the registers then
-abbrev name_regs : Surroundings → Point → Declared → Base → List (ℕ × ℕ)
+abbrev pub name_regs : Surroundings → Point → Declared → Base → List (ℕ × ℕ)
 name_regs w p x b = (10, frame_under w.parts p.control.layers + x.place) ∷ []
 
-abbrev number_regs : Surroundings → Point → Declared → Base → List (ℕ × ℕ)
+abbrev pub number_regs : Surroundings → Point → Declared → Base → List (ℕ × ℕ)
 number_regs w p x b = (11, x.number) ∷ name_regs w p x b
 
-abbrev front_regs : Surroundings → Point → (given : ℕ) → Declared → Base → List (ℕ × ℕ)
+abbrev pub front_regs : Surroundings → Point → (given : ℕ) → Declared → Base → List (ℕ × ℕ)
 front_regs w p given x b = (12, given) ∷ number_regs w p x b
 
-abbrev asked_regs : Surroundings → Point → (given : ℕ) → Declared → Base → List (ℕ × ℕ)
+abbrev pub asked_regs : Surroundings → Point → (given : ℕ) → Declared → Base → List (ℕ × ℕ)
 asked_regs w p given x b =
     (17, 7) ∷ (14, 0) ∷ (13, frame_under w.parts p.control.layers + (x.place + name_bytes)) ∷ front_regs w p given x b
 
-abbrev front_code : Declared → Code
+abbrev pub front_code : Declared → Code
 front_code x = name_code x ++ (number a1 x.number ++ given_code x)
 
 -- by the datum that is named
@@ -383,6 +383,16 @@ stack_taken {w} {p = p} {q = q} {x = x} {φ = φ} {numbers = numbers} k becomes 
 
 -- ---- the whole
 
+pub split_code :
+    (name num given data' tail : Code) →
+    name ++ (num ++ (given ++ (data' ++ tail))) ≡ (name ++ (num ++ given)) ++ (data' ++ tail)
+split_code name num given data' tail =
+    ap (λ u. name ++ u) (sym (append_assoc num given (data' ++ tail)))
+    ∙ sym (append_assoc name (num ++ given) (data' ++ tail))
+
+split_data : (data' two rest : Code) → data' ++ (two ++ rest) ≡ (data' ++ two) ++ rest
+split_data data' two rest = sym (append_assoc data' two rest)
+
 pub becomes_comes :
     (w : Surroundings) (code : List Instr) (e : Environment) (p q : Point) (numbers : ℕ → ℕ) (x : Declared) (φ : Layer)
     (φs : List Layer) (c index : ℕ) (f : Family) → Stands w p × IsImage w code p → MayBeMade w code p x φ φs →
@@ -451,16 +461,6 @@ becomes_comes w code e p q numbers x φ φs c index f known is becomes same l th
     let all = reach_moved (omega (arith, size, n0, n1, n2, n3, n4, n5, n6)) (omega (arith, size, n0, n1, n2, n3, n4, n5, n6))
     (reach_then r1 (reach_then r2 (reach_then r3 r4))) in
     reach_map _ all (λ b y o. in_known h' new.1.parts o)
-  where
-    split_code :
-        (name num given data' tail : Code) →
-        name ++ (num ++ (given ++ (data' ++ tail))) ≡ (name ++ (num ++ given)) ++ (data' ++ tail)
-    split_code name num given data' tail =
-        ap (λ u. name ++ u) (sym (append_assoc num given (data' ++ tail)))
-        ∙ sym (append_assoc name (num ++ given) (data' ++ tail))
-
-    split_data : (data' two rest : Code) → data' ++ (two ++ rest) ≡ (data' ++ two) ++ rest
-    split_data data' two rest = sym (append_assoc data' two rest)
 
 -- nothing is told of its name
 pub made_becomes :
