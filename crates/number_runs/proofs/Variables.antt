@@ -1,5 +1,5 @@
 -- Variables that the class admits: references to all of one, and what is declared.
-use Rattle.std.proofs.Common.{◌≡◌, ℕ, suc, List, [], ◌∷◌, length, Option, None, Some, true, refl, sym, ap, ◌∙◌}
+use Rattle.std.proofs.Common.{◌≡◌, ℕ, suc, List, [], ◌∷◌, length, Option, None, Some, true, refl, sym, ap, ◌∙◌, subst}
 use Rattle.std.specs.Prelude.{◌&&◌, ◌==◌}
 use Rattle.std.proofs.lemmas.Bool.{and_parts, eqb-true}
 use Rattle.pli_typing.specs.TypedTree as Y
@@ -11,7 +11,9 @@ use Rattle.list_calls.specs.Arguments.{ByValue, Way, arguments_of}
 use Rattle.list_calls.specs.ListKnown.{AreStored}
 use Rattle.number_runs.specs.Numbers.{Scope, are_arguments}
 use Rattle.number_runs.specs.Numbers.{has_none, is_absent, is_automatic, is_fixed, is_given, is_known}
-use Rattle.number_runs.specs.Numbers.{is_argument, is_number, is_one_word, is_parameter, is_parameter_class, is_plain}
+use Rattle.number_runs.specs.Initial.{are_values, values_in, values_of}
+use Rattle.number_runs.specs.Numbers.{is_argument, is_number, is_number_leaf, is_one_number, is_one_word, is_parameter}
+use Rattle.number_runs.specs.Numbers.{is_parameter_class, is_plain}
 use Rattle.number_runs.specs.Numbers.{is_received, is_scalar, is_variable, is_word, spot_of}
 use Rattle.number_runs.specs.Statements.{behind_stored, is_stored}
 
@@ -113,6 +115,27 @@ leaves_are [] h = absurd (cc h)
 leaves_are (l ∷ []) h = ap (λ l'. l' ∷ []) (word_is l h)
 leaves_are (l ∷ m ∷ ls) h = absurd (cc h)
 
+-- one to which INITIAL may give values
+number_is :
+    (l : Y.Leaf) → is_number_leaf l ≡ true →
+    (l ≡ number_leaf l.initial) × (are_values (Y.FixedLeaf 31) l.initial ≡ true)
+number_is l h =
+    let values = are_values l.type l.initial in
+    let a = and_parts (is_fixed l.type) (has_none l.bounds && values) h in
+    let b = and_parts (has_none l.bounds) values a.1 in (
+      ap (λ t. record l { type = t }) (fixed_is l.type a.0)
+          ∙ ap (λ bs. let l' : Y.Leaf = record { type = Y.FixedLeaf 31; bounds = bs; initial = l.initial } in l')
+          (none_is l.bounds b.0),
+      subst (λ t. are_values t l.initial ≡ true) (fixed_is l.type a.0) b.1,
+    )
+
+numbers_are :
+    (ls : List Y.Leaf) → is_one_number ls ≡ true →
+    (ls ≡ number_leaf (values_in ls) ∷ []) × (are_values (Y.FixedLeaf 31) (values_in ls) ≡ true)
+numbers_are [] h = absurd (cc h)
+numbers_are (l ∷ []) h = let one = number_is l h in (ap (λ l'. l' ∷ []) one.0, one.1)
+numbers_are (l ∷ m ∷ ls) h = absurd (cc h)
+
 abbrev plain_members : List Y.Member
 plain_members = (number_declared []).members
 
@@ -124,23 +147,33 @@ scalar_is (m ∷ []) h =
     ∙ ap (λ n. let m' : Y.Member = record { depth = 0; dimensions = n } in m' ∷ []) (eqb-true m.dimensions 0 a.1)
 scalar_is (m ∷ l ∷ ms) h = absurd (cc h)
 
-pub plain_is : (d : Y.DeclaredVariable) → is_plain d ≡ true → d ≡ number_declared []
+pub plain_is : (d : Y.DeclaredVariable) → is_plain d ≡ true → d ≡ number_declared (values_of d)
 plain_is d h =
-    let one = is_one_word d.leaves in
+    let one = is_one_number d.leaves in
     let absent = is_absent d.refer in
     let last = has_none d.evaluations in
+    let initial = values_of d in
     let a = and_parts (is_automatic d.class) (is_scalar d.members && (one && (absent && last))) h in
     let b = and_parts (is_scalar d.members) (one && (absent && last)) a.1 in
     let c = and_parts one (absent && last) b.1 in
     let e = and_parts absent last c.1 in
     ap (λ k. record d { class = k }) (automatic_is d.class a.0)
     ∙ ap (λ ms. record d { class = Y.AutomaticClass; members = ms }) (scalar_is d.members b.0)
-    ∙ ap (λ ls. record d { class = Y.AutomaticClass; members = plain_members; leaves = ls }) (leaves_are d.leaves c.0)
+    ∙ ap (λ ls. record d { class = Y.AutomaticClass; members = plain_members; leaves = ls })
+    (numbers_are d.leaves c.0).0
     ∙ ap (λ r.
-    let d' : Y.DeclaredVariable = record (number_declared []) { refer = r; evaluations = d.evaluations } in d')
+    let d' : Y.DeclaredVariable = record (number_declared initial) { refer = r; evaluations = d.evaluations } in d')
     (absent_is d.refer e.0)
-    ∙ ap (λ es. let d' : Y.DeclaredVariable = record (number_declared []) { evaluations = es } in d')
+    ∙ ap (λ es. let d' : Y.DeclaredVariable = record (number_declared initial) { evaluations = es } in d')
     (none_is d.evaluations e.1)
+
+pub plain_values : (d : Y.DeclaredVariable) → is_plain d ≡ true → are_values (Y.FixedLeaf 31) (values_of d) ≡ true
+plain_values d h =
+    let rest = is_absent d.refer && has_none d.evaluations in
+    let one = is_one_number d.leaves in
+    let a = and_parts (is_automatic d.class) (is_scalar d.members && (one && rest)) h in
+    let b = and_parts (is_scalar d.members) (one && rest) a.1 in
+    (numbers_are d.leaves (and_parts one rest b.1).0).1
 
 pub parameter_declared_is : (d : Y.DeclaredVariable) → is_parameter d ≡ true → d ≡ parameter_declared
 parameter_declared_is d h =

@@ -14,6 +14,7 @@ use Rattle.pli_coding.specs.Frames.{parameters_of_block}
 use Rattle.expression_runs.specs.Variables.{Spot, variable_of}
 use Rattle.argument_runs.specs.Parameters.{parameter_of}
 use Rattle.area_runs.specs.Based.{based_of}
+use Rattle.number_runs.specs.Initial.{are_values}
 use Rattle.number_runs.specs.Arrays.{bounds_if, is_array_if}
 use Rattle.number_runs.specs.Narrow.{is_bit, is_narrow_if, is_number_type, is_text_type, type_if}
 use Rattle.number_runs.specs.Based.{is_area_if, is_based_class, is_based_if, is_pointer_if}
@@ -73,12 +74,21 @@ abbrev pub has_none : {A : Type 0} → List A → Bool
 has_none [] = true
 has_none (x ∷ xs) = false
 
+-- to which nothing is given
 abbrev pub is_word : Y.Leaf → Bool
 is_word l = is_fixed l.type && (has_none l.bounds && has_none l.initial)
 
 abbrev pub is_one_word : List Y.Leaf → Bool
 is_one_word (l ∷ []) = is_word l
 is_one_word _ = false
+
+-- to which INITIAL may give values
+abbrev pub is_number_leaf : Y.Leaf → Bool
+is_number_leaf l = is_fixed l.type && (has_none l.bounds && are_values l.type l.initial)
+
+abbrev pub is_one_number : List Y.Leaf → Bool
+is_one_number (l ∷ []) = is_number_leaf l
+is_one_number _ = false
 
 abbrev pub is_automatic : Y.StorageClass → Bool
 is_automatic Y.AutomaticClass = true
@@ -88,11 +98,11 @@ abbrev pub is_absent : {A : Type 0} → Option A → Bool
 is_absent None = true
 is_absent (Some x) = false
 
--- AUTOMATIC FIXED BINARY(31), a scalar without INITIAL
+-- AUTOMATIC FIXED BINARY(31), a scalar
 abbrev pub is_plain : Y.DeclaredVariable → Bool
 is_plain d =
     is_automatic d.class
-    && (is_scalar d.members && (is_one_word d.leaves && (is_absent d.refer && has_none d.evaluations)))
+    && (is_scalar d.members && (is_one_number d.leaves && (is_absent d.refer && has_none d.evaluations)))
 
 abbrev pub is_plain_if : Option Y.DeclaredVariable → Bool
 is_plain_if None = false
