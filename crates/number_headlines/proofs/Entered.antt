@@ -39,8 +39,8 @@ use Rattle.expression_runs.specs.Variables.{IsNumber, Spot, variable_of}
 use Rattle.element_runs.specs.Arrays.{IsArray}
 use Rattle.scalar_runs.specs.Scalars.{IsScalar}
 use Rattle.element_runs.proofs.Outer.{outer_array}
-use Rattle.variable_runs.specs.Lists.{AreAll, all_made, behind_made, layer_after, layer_behind}
-use Rattle.variable_runs.proofs.Lists.{all_procedure}
+use Rattle.variable_runs.specs.Lists.{AreAllBegun, all_made, behind_made, layer_after, layer_behind}
+use Rattle.variable_runs.proofs.Lists.{all_begun}
 use Rattle.argument_runs.specs.Parameters.{parameter_of}
 use Rattle.block_headlines.proofs.Constants.{called_of_program}
 use Rattle.nested_calls.specs.Nested.{IsNested, parent_at}
@@ -58,6 +58,7 @@ use Rattle.number_runs.proofs.Words.{all_words, function_array, function_word, o
 use Rattle.number_runs.proofs.Words.{function_narrow, own_narrow, room_fewer}
 use Rattle.number_runs.proofs.Narrow.{outer_narrow}
 use Rattle.number_headlines.specs.Programs.{places_to, receivers_of, scope_of}
+use Rattle.number_headlines.proofs.Begins.{begins_at, block_begins}
 use Rattle.number_headlines.proofs.FullWords.{words_at, words_count, words_lower}
 use Rattle.number_headlines.proofs.Inner.{Inner}
 use Rattle.number_headlines.proofs.Loops.{after_waits, after_words}
@@ -162,7 +163,7 @@ pub has_words :
     {p : Point} {numbers : ℕ → ℕ} (o : Moment m input acts valued (suc more) a (suc b) p numbers)
     {v : Bool} {level number : ℕ} (i : Inner m a.head [] v level number) (call : ℕ) →
     DontPass (block_of_run program input acts valued (suc more) a) i →
-    HasWords (surroundings_for program input acts)
+    HasWords (surroundings_for program input acts) (linked_code (code_for program))
     (callee_in i more (block_of_run program input acts valued (suc more) a) call) p
     numbers
 has_words {program} m {input} {acts} {valued} {more} {b} {a} {p = p} {numbers = numbers} o {v = v} i call pass =
@@ -173,7 +174,7 @@ has_words {program} m {input} {acts} {valued} {more} {b} {a} {p = p} {numbers = 
     let plain = plain_block program.variables i.head.number m.known i.own in
     record {
       kind = (known program i.head i.body (result_of v) m.loadable.well_formed i.is).kind;
-      code = refl;
+      coded = refl;
       block = refl;
       level = refl;
       program = refl;
@@ -183,6 +184,9 @@ has_words {program} m {input} {acts} {valued} {more} {b} {a} {p = p} {numbers = 
       plain = plain.plain;
       few = serials_enough program i.head.number m.known;
       tabled = table_later program o.among.later.remains o.running.tabled i.head;
+      begin = begins_at program (variables_of_block program i.head.number) p.places.constants
+          (o.among.later.remains.constants ∙ o.running.told.constants)
+          (block_begins program i.head i.body [] (result_of v) m.memory m.known i.is);
       room = room_fewer w (begun_at w c p numbers) (layer_for w p numbers c.procedure c.calling) p.control.layers
           (fixed_size i.head.level 0) n (n + 0) (omega arith) (begun_room m o i c refl pass);
     }
@@ -192,11 +196,11 @@ pub has_all :
     {p : Point} {numbers : ℕ → ℕ} (o : Moment m input acts valued (suc more) a (suc b) p numbers)
     {v : Bool} {level number : ℕ} (i : Inner m a.head [] v level number) (call : ℕ) →
     DontPass (block_of_run program input acts valued (suc more) a) i →
-    AreAll (surroundings_for program input acts)
+    AreAllBegun (surroundings_for program input acts) (linked_code (code_for program))
     (callee_in i more (block_of_run program input acts valued (suc more) a) call) p
     numbers (words_in (environment_for program i.head))
 has_all {program} m {input} {acts} {valued} {more} {a = a} {p = p} {numbers = numbers} o {v = v} i call pass =
-    all_words (surroundings_for program input acts)
+    all_words (surroundings_for program input acts) (linked_code (code_for program))
     (callee_in i more (block_of_run program input acts valued (suc more) a) call) p
     numbers (has_words m o i call pass)
 
@@ -209,7 +213,7 @@ pub are_made :
     (callee_in i more (block_of_run program input acts valued (suc more) a) call) p
     numbers
 are_made {program} m {input} {acts} {valued} {more} {a = a} {p = p} {numbers = numbers} o {v = v} i call pass =
-    all_procedure (surroundings_for program input acts) (linked_code (code_for program))
+    all_begun (surroundings_for program input acts) (linked_code (code_for program))
     (callee_in i more (block_of_run program input acts valued (suc more) a) call) p
     numbers (words_in (environment_for program i.head)) (has_all m o i call pass)
 

@@ -35,7 +35,7 @@ use Rattle.expression_runs.specs.Variables.{IsNumber, Spot, variable_of}
 use Rattle.element_runs.specs.Arrays.{IsArray}
 use Rattle.scalar_runs.specs.Scalars.{IsScalar}
 use Rattle.variable_runs.specs.Lists.{all_made, behind_made, layer_after, layer_behind}
-use Rattle.variable_runs.proofs.Lists.{all_procedure}
+use Rattle.variable_runs.proofs.Lists.{all_begun}
 use Rattle.pli_headline.specs.Headline.{FitsMemory, Headline, parts}
 use Rattle.block_headlines.proofs.Constants.{constants_stand}
 use Rattle.block_headlines.specs.Headlines.{HeadlinesKept, Layout, Runs}
@@ -301,7 +301,7 @@ program_runs once tables {program} m fits =
           (first_bytes (picture_of parts program)) m.loadable (has_start program m.known) m.main
           (first_length (picture_of parts program) m.loadable.fits fits.statics_fit)
           (constants_stand (code_for program) fits) few
-          (all_procedure (surroundings_for program input acts) (linked_code (code_for program))
+          (all_begun (surroundings_for program input acts) (linked_code (code_for program))
           (main_for m input acts)
           (start_for program input acts) no_numbers (held_in (environment_for program m.head))
           (main_all m input acts))

@@ -1,4 +1,5 @@
 pub mod Tables
+pub mod Begins
 pub mod Puts
 pub mod Loops
 pub mod Mains

@@ -271,8 +271,10 @@ given_numbers {program} m {input} {acts} {valued} {more} {b} {a} {ns} {v} {level
         (o.caller.variables x (and_from around' plain low.1 parts.1))
     by (inr own) =
         let there = found (declared_variable program (variable_of x)) parts.1 in
-        known_number (block_of_run program input acts v more (run_given o)) x []
-        (own_known m o x (number_declared []) own there.is refl)
+        let d = number_declared there.initial in
+        known_number (block_of_run program input acts v more (run_given o)) x there.initial
+        (own_known m o x d own there.is
+        (ap (λ q. q || (is_array d || (is_narrow d || is_pointer d))) there.plain))
 
 given_arrays :
     {program : Y.Program} (m : Main program) {input : List ℕ} {acts : ℕ} {valued : Bool} {more b : ℕ} {a : Running}

@@ -38,7 +38,7 @@ use Rattle.number_runs.specs.Initial.{values_of}
 use Rattle.number_runs.specs.Arrays.{array_bounds, bounds_if, is_array, is_array_if}
 use Rattle.scalar_runs.specs.Scalars.{IsScalar}
 use Rattle.number_runs.specs.Narrow.{is_narrow, is_narrow_if, narrow_type, type_if}
-use Rattle.number_runs.specs.Numbers.{is_plain_if}
+use Rattle.number_runs.specs.Numbers.{is_plain, is_plain_if}
 use Rattle.number_runs.specs.Variables.{EachBegins}
 use Rattle.number_runs.specs.Variables.{AreTabled, HasWords, HaveRoom, IsOwnArray, IsOwnNarrow, IsOwnWord, IsTabled}
 use Rattle.number_runs.specs.Variables.{are_plain, bytes_of, is_declared, own_bounds, own_type, variable_bytes}
@@ -311,10 +311,16 @@ slice_less (y ∷ ys) (suc i) x e = let n = slice_less ys i x e in omega (arith,
 pub record Found (o : Option Y.DeclaredVariable) : Type 0 where
   pub initial : List T.InitialItem
   pub is : o ≡ Some (number_declared initial)
+  pub plain : is_plain (number_declared initial) ≡ true
 
 pub found : (o : Option Y.DeclaredVariable) → is_plain_if o ≡ true → Found o
 found None h = absurd (cc h)
-found (Some d) h = record { initial = values_of d; is = ap (λ d'. Some d') (plain_is d h) }
+found (Some d) h =
+    record {
+      initial = values_of d;
+      is = ap (λ d'. Some d') (plain_is d h);
+      plain = subst (λ d'. is_plain d' ≡ true) (plain_is d h) h;
+    }
 
 pub record FoundArray (o : Option Y.DeclaredVariable) : Type 0 where
   pub declared : Y.DeclaredVariable
