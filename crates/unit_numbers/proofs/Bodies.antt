@@ -70,7 +70,7 @@ use Rattle.unit_numbers.proofs.Mains.{placed}
 use Rattle.unit_numbers.proofs.Past.{alone_parent, main_alone, main_past}
 use Rattle.unit_numbers.proofs.Places.{all_placed_in, listed_at, listed_back, listed_front, placed_in}
 use Rattle.unit_numbers.proofs.Puts.{main_told}
-use Rattle.unit_numbers.proofs.Raises.{Knows, knows_of}
+use Rattle.unit_numbers.proofs.Raises.{Knows, error_at, knows_of}
 use Rattle.unit_numbers.proofs.Scenes.{EachBody, IsAbove, IsAt, IsInside, Part, at_told, block_of, rises_above}
 use Rattle.unit_numbers.proofs.Scenes.{rises_home, scope_of, told_outer}
 use Rattle.unit_numbers.proofs.Units.{unit_is}
@@ -164,11 +164,16 @@ each_body once {program} m (suc more) h blocks c o os ih e above =
     (λ unit. let i = e.inner unit in (record { caller = i.caller; level = i.level; block = i.block }, above)) each own
     (rises_above m h (block_of m h o' os) own above) in
     let few : a.free.layer.words ≤ most_set = omega (arith, words, waiting) in
-    body_does (scope_of m c) c.valued (block_of m h o os) c.body c.index (most_for program) left_over
-    (ready m h ih (suc more) blocks c o os a own few e.clear e.home knows told) e.part.statements e.part.needs
-    (frame_left m h ih (suc more) blocks c o os a own few e.clear e.home knows told (statements_set c.body)
-    (omega (arith, words)))
-    e.part.placed
+    record {
+      each = body_does (scope_of m c) c.valued (block_of m h o os) c.body c.index (most_for program) left_over
+          (ready m h ih (suc more) blocks c o os a own few e.clear e.home knows told) e.part.statements e.part.needs
+          (frame_left m h ih (suc more) blocks c o os a own few e.clear e.home knows told (statements_set c.body)
+          (omega (arith, words)))
+          e.part.placed;
+      error = λ line r.
+          error_at once m h ih more blocks c o os a each [] (rises_above m h (block_of m h o os) [] above) 0 []
+          (λ label among. among) line r;
+    }
 
 -- ---- the main procedure's block
 

@@ -9,6 +9,7 @@ pub mod Outer
 pub mod Past
 pub mod Established
 pub mod Puts
+pub mod Routines
 pub mod Divides
 pub mod NestedJumps
 pub mod Homes
