@@ -10,6 +10,7 @@ use Rattle.pli_typing.specs.TypedTree as Y
 use Rattle.pli_meaning.specs.Control.{Flow, Label, is_among}
 use Rattle.pli_meaning.specs.Executing.{labels_in, list}
 use Rattle.pli_meaning.specs.StorageState.{Activation, State, ancestor, height_of, most_activations, newest_height}
+use Rattle.pli_meaning.specs.StorageState.{oncode_of}
 use Rattle.pli_coding.specs.Assembly.{size_of}
 use Rattle.pli_coding.specs.Environments.{none_taken}
 use Rattle.pli_coding.specs.Images.{linked_code}
@@ -101,6 +102,7 @@ ready m h ih more blocks c o os a own few clear home knows told =
       arrays = λ may. a.arrays;
       narrows = λ may. a.narrows;
       parameters = λ x is. absurd (cc is);
+      codes = λ may. a.code;
       based = λ may. absurd (cc may);
       calls = knows.calls;
       jumps = knows.jumps;
@@ -244,6 +246,7 @@ main_at {program} m h ih writes =
       main_arrays = ih.arrays;
       main_narrows = ih.narrows;
       idle = ih.begun.resumes.idle;
+      code = subst (λ as'. oncode_of as' < 2 ^ 16) (sym one.is) (omega arith);
       told = record { code = of.code; links = of.links; constants = of.constants };
       free = ih.free;
       tabled = table_later program ih.begun.remains

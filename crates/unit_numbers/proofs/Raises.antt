@@ -339,6 +339,7 @@ puts_of once {program} m h ih more blocks c o os a puts =
       arrays = λ may. a.arrays;
       narrows = λ may. a.narrows;
       parameters = λ x is. absurd (cc is);
+      code = a.code;
       wordless = refl;
       lists = lists_known program (block_of m h o os) m.memory a.told;
     })

@@ -22,6 +22,7 @@ use Rattle.expression_runs.specs.Assignments.{setting_of}
 use Rattle.expression_runs.specs.Variables.{IsNumber, Spot}
 use Rattle.element_runs.specs.Arrays.{IsArray}
 use Rattle.scalar_runs.specs.Scalars.{IsScalar}
+use Rattle.condition_codes.specs.Codes.{HasCode}
 use Rattle.error_units.specs.Errors.{ErrorGoes, ErrorRoutines}
 use Rattle.counter_runs.proofs.Known.{array_told, number_told}
 use Rattle.counter_runs.proofs.Words.{begun_telling}
@@ -91,6 +92,8 @@ pub record IsAt {program : Y.Program} (m : Main program) (h : Home) (more blocks
         (x : Spot) → is_narrow_known (main_scope m false) x ≡ true →
         IsScalar (block_of m h o os) x (type_known (main_scope m false) x)
     pub idle : o.first.control.waiting ≡ None
+    -- ONCODE is a condition's code, or 0
+    pub code : HasCode (block_of m h o os)
     -- what the program tells of its static data is told there
     pub told : IsOf program (block_of m h o os)
     pub free : Free (world_of m h) o.first blocks
@@ -183,6 +186,7 @@ at_told {program} {m} {h} {more} {blocks} {c} {o} {os} a waits =
       main_narrows = λ x is.
           narrow_told k φ φs waits free.newest x (type_known (main_scope m false) x) (a.main_narrows x is);
       idle = a.idle;
+      code = a.code;
       told = record { code = a.told.code; links = a.told.links; constants = a.told.constants };
       free = record {
         layer = with_waits waits φ;

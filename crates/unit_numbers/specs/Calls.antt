@@ -67,6 +67,7 @@ scope_in program ns all caller unit writes =
       own = not unit;
       is_outer = λ level label. unit && ((level == caller.level) && is_among label (labels_in all));
       signals = λ c. true;
+      codes = true;
     }
 
 -- it does one or the other
