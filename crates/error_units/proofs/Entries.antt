@@ -191,8 +191,7 @@ memory_new {w = w} {p = p} {x = x} f q b m o =
     let laid = q.is.next.laid in
     let words = are_words q b in
     let long : length first ≡ length o.first = length-store 4 o.first (x.layer.at + 0) ((f b).machine.registers 1) in
-    let r = entered_memory w p b.at first x.head x.entry φ x.head.line (q.stands, before'.storage, before'.frames)
-    (
+    let r = entered_memory w p b.at first x.head x.entry φ x.head.line (q.stands, before'.storage, before'.frames) (
       record {
         above = laid.above;
         fixed = laid.fixed;

@@ -87,9 +87,9 @@ toll_sound = record {
       (
         (
           (
-              tt,
-              (((toll_format 3, (((omega arith, omega arith), tt), tt)), tt), omega arith),
-            ),
+            tt,
+            (((toll_format 3, (((omega arith, omega arith), tt), tt)), tt), omega arith),
+          ),
           tt,
         ),
         omega arith,
@@ -103,9 +103,9 @@ toll_sound = record {
             omega arith,
             (
               (
-              tt,
-              (((toll_format 6, (((omega arith, omega arith), tt), tt)), tt), omega arith),
-            ),
+                tt,
+                (((toll_format 6, (((omega arith, omega arith), tt), tt)), tt), omega arith),
+              ),
               tt,
             ),
           ),
