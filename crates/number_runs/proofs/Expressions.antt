@@ -14,6 +14,7 @@ use Rattle.pli_serving.specs.ServiceState.{Entry, TextEntry}
 use Rattle.pli_coding.specs.Assembly.{ConstantBytes}
 use Rattle.expression_runs.specs.Laws.{Does}
 use Rattle.expression_runs.specs.Values.{Setting}
+use Rattle.condition_codes.proofs.Codes.{code_does}
 use Rattle.expression_runs.proofs.Operands.{constant_does}
 use Rattle.expression_runs.proofs.Sums.{difference_does, sum_does}
 use Rattle.expression_runs.proofs.VariablePoints.{variable_does}
@@ -175,6 +176,7 @@ numbers_told s k h g words few waits free =
       narrows = λ may x is.
           narrow_told k.block g.layer g.others waits g.newest x (type_known s x) (h.narrows may x is);
       parameters = λ x is. parameter_told k.block g.layer g.others waits g.newest x (h.parameters x is);
+      codes = h.codes;
       functions = λ level n is. g.functions words few waits level n is;
       texts = λ may. texts_unlocated (g.texts may words few waits);
       given = λ may. record {
@@ -353,7 +355,7 @@ mutual
   number_does s k (Y.UpperBound r n) h is room = absurd (cc is)
   number_does s k (Y.ElementsOf r n) h is room = absurd (cc is)
   number_does s k (Y.AllocationsOf v) h is room = absurd (cc is)
-  number_does s k Y.OnCode h is room = absurd (cc is)
+  number_does s k Y.OnCode h is room = code_does k (h.codes is)
 
   call_does :
       (s : Scope) (k : Setting) (c : Y.Call) (h : KnowsNumbers s k) → is_number s (Y.NumberFrom c) ≡ true →

@@ -170,6 +170,7 @@ knows_in {s} {k = k} {most = most} r words set low plain labels line includes =
       arrays = r.arrays;
       narrows = r.narrows;
       parameters = r.parameters;
+      codes = r.codes;
       functions = λ level n is. r.calls.functions words set labels line level n includes is;
       texts = λ may. texts_in r words set may labels line includes;
       given = λ may.

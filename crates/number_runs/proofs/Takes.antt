@@ -319,7 +319,7 @@ mutual
   number_taken s (Y.UpperBound r n) t h fits = absurd (cc h)
   number_taken s (Y.ElementsOf r n) t h fits = absurd (cc h)
   number_taken s (Y.AllocationsOf v) t h fits = absurd (cc h)
-  number_taken s Y.OnCode t h fits = absurd (cc h)
+  number_taken s Y.OnCode t h fits = sets_none t
 
   pub call_taken :
       (s : Scope) (c : Y.Call) (t : Taken) → is_number s (Y.NumberFrom c) ≡ true → Fits t (call_needs c) →

@@ -112,6 +112,7 @@ ready_told {s} {k = k} r c none waits behind free =
       arrays = λ may x is. array_told k l.layer l.others waits l.newest x (bounds_known s x) (r.arrays may x is);
       narrows = λ may x is. narrow_told k l.layer l.others waits l.newest x (type_known s x) (r.narrows may x is);
       parameters = λ x is. parameter_told k l.layer l.others waits l.newest x (r.parameters x is);
+      codes = r.codes;
       calls = l.calls waits;
       based = λ may. absurd (cc (sym none ∙ may));
       jumps = l.jumps waits;
@@ -198,6 +199,7 @@ ready_unlocated r =
       arrays = r.arrays;
       narrows = r.narrows;
       parameters = r.parameters;
+      codes = r.codes;
       calls = calls_unlocated r.calls;
       based = λ may. absurd (cc may);
       jumps = r.jumps;

@@ -25,6 +25,7 @@ use Rattle.run_steps.specs.DataNamed.{IsPlaced}
 use Rattle.run_steps.specs.Engine.{most_code}
 use Rattle.run_steps.specs.Items.{Linked}
 use Rattle.program_runs.specs.Statements.{Block, Does, DoesWith, IsBegun, IsOwn, set_aside, waiting}
+use Rattle.condition_codes.specs.Codes.{HasCode}
 use Rattle.expression_runs.specs.Assignments.{setting_around}
 use Rattle.expression_runs.specs.Laws as L
 use Rattle.expression_runs.specs.Raises.{Routines}
@@ -155,6 +156,7 @@ pub record KnowsNumbers (s : Scope) (k : Setting) : Type 0 where
   pub located :
       s.locates ≡ true → (p n : Spot) → is_pointer_known s p ≡ true → is_based_known s n ≡ true →
       L.Does k 0 (Y.NumberIn (through p n))
+  pub codes : s.codes ≡ true → HasCode k.block
 
 -- so many words are left for lists behind those that are set aside
 abbrev pub HasLists : {s : Scope} → {k : Setting} → KnowsNumbers s k → (count : ℕ) → Type 0
@@ -388,6 +390,7 @@ pub record IsReady (s : Scope) (valued : Bool) (k : Block) (labels : List Label)
   pub arrays : s.elements ≡ true → (x : Spot) → is_array_known s x ≡ true → IsArray k x (bounds_known s x)
   pub narrows : s.narrows ≡ true → (x : Spot) → is_narrow_known s x ≡ true → IsScalar k x (type_known s x)
   pub parameters : (x : Spot) → is_received s x ≡ true → IsParameter k x
+  pub codes : s.codes ≡ true → HasCode k
   pub calls : KnowsCalls s k labels most left'
   pub based : s.locates ≡ true → KnowsBased s k labels most left'
   pub jumps : KnowsJumps s k labels left'

@@ -58,6 +58,8 @@ pub record Scope : Type 0 where
   pub is_outer : ℕ → Label → Bool
   -- the conditions that they may signal
   pub signals : Condition → Bool
+  -- whether they may have ONCODE
+  pub codes : Bool
 
 -- ---- variables
 
@@ -272,6 +274,7 @@ abbrev mutual
       s.texts && (is_text (without_given s) searched && is_text (without_given s) sought)
   is_number s (Y.VerifyOf searched allowed) =
       s.texts && (is_text (without_given s) searched && is_text (without_given s) allowed)
+  is_number s Y.OnCode = s.codes
   is_number s _ = false
 
   -- a variable, a parameter, an element of an array, or what a pointer leads to

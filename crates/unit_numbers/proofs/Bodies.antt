@@ -10,6 +10,7 @@ use Rattle.pli_typing.specs.TypedTree as Y
 use Rattle.pli_meaning.specs.Control.{Flow, Label, is_among}
 use Rattle.pli_meaning.specs.Executing.{labels_in, list}
 use Rattle.pli_meaning.specs.StorageState.{Activation, State, ancestor, height_of, most_activations, newest_height}
+use Rattle.pli_meaning.specs.StorageState.{oncode_of}
 use Rattle.pli_coding.specs.Assembly.{size_of}
 use Rattle.pli_coding.specs.Environments.{none_taken}
 use Rattle.pli_coding.specs.Images.{linked_code}
@@ -70,7 +71,7 @@ use Rattle.unit_numbers.proofs.Mains.{placed}
 use Rattle.unit_numbers.proofs.Past.{alone_parent, main_alone, main_past}
 use Rattle.unit_numbers.proofs.Places.{all_placed_in, listed_at, listed_back, listed_front, placed_in}
 use Rattle.unit_numbers.proofs.Puts.{main_told}
-use Rattle.unit_numbers.proofs.Raises.{Knows, knows_of}
+use Rattle.unit_numbers.proofs.Raises.{Knows, error_at, knows_of}
 use Rattle.unit_numbers.proofs.Scenes.{EachBody, IsAbove, IsAt, IsInside, Part, at_told, block_of, rises_above}
 use Rattle.unit_numbers.proofs.Scenes.{rises_home, scope_of, told_outer}
 use Rattle.unit_numbers.proofs.Units.{unit_is}
@@ -101,6 +102,7 @@ ready m h ih more blocks c o os a own few clear home knows told =
       arrays = λ may. a.arrays;
       narrows = λ may. a.narrows;
       parameters = λ x is. absurd (cc is);
+      codes = λ may. a.code;
       based = λ may. absurd (cc may);
       calls = knows.calls;
       jumps = knows.jumps;
@@ -164,11 +166,16 @@ each_body once {program} m (suc more) h blocks c o os ih e above =
     (λ unit. let i = e.inner unit in (record { caller = i.caller; level = i.level; block = i.block }, above)) each own
     (rises_above m h (block_of m h o' os) own above) in
     let few : a.free.layer.words ≤ most_set = omega (arith, words, waiting) in
-    body_does (scope_of m c) c.valued (block_of m h o os) c.body c.index (most_for program) left_over
-    (ready m h ih (suc more) blocks c o os a own few e.clear e.home knows told) e.part.statements e.part.needs
-    (frame_left m h ih (suc more) blocks c o os a own few e.clear e.home knows told (statements_set c.body)
-    (omega (arith, words)))
-    e.part.placed
+    record {
+      each = body_does (scope_of m c) c.valued (block_of m h o os) c.body c.index (most_for program) left_over
+          (ready m h ih (suc more) blocks c o os a own few e.clear e.home knows told) e.part.statements e.part.needs
+          (frame_left m h ih (suc more) blocks c o os a own few e.clear e.home knows told (statements_set c.body)
+          (omega (arith, words)))
+          e.part.placed;
+      error = λ line r.
+          error_at once m h ih more blocks c o os a each [] (rises_above m h (block_of m h o os) [] above) 0 []
+          (λ label among. among) line r;
+    }
 
 -- ---- the main procedure's block
 
@@ -239,6 +246,7 @@ main_at {program} m h ih writes =
       main_arrays = ih.arrays;
       main_narrows = ih.narrows;
       idle = ih.begun.resumes.idle;
+      code = subst (λ as'. oncode_of as' < 2 ^ 16) (sym one.is) (omega arith);
       told = record { code = of.code; links = of.links; constants = of.constants };
       free = ih.free;
       tabled = table_later program ih.begun.remains

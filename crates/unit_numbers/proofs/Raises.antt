@@ -1,6 +1,6 @@
 -- What is known around the statements of a block: its raises come to what they mean, be it by a unit of the main
 -- procedure, and so do its calls, its jumps out and what it writes.
-use Rattle.std.proofs.Common.{◌≡◌, inl, inr, ℕ, zero, suc, ◌+◌, ◌^◌, ◌<◌, List, [], ◌∷◌, length}
+use Rattle.std.proofs.Common.{◌≡◌, ◌⊎◌, inl, inr, ℕ, zero, suc, ◌+◌, ◌^◌, ◌<◌, List, [], ◌∷◌, length}
 use Rattle.std.proofs.Common.{Bool, true, false, refl, sym, ap, ◌∙◌, subst, arith}
 use Rattle.std.specs.Prelude.{◌&&◌, ◌==◌, nat_lt, not}
 use Rattle.std.proofs.lemmas.Bool.{and_parts, eqb-true}
@@ -28,11 +28,11 @@ use Rattle.program_runs.specs.Starts.{image_parts}
 use Rattle.program_runs.specs.Statements.{Block, Does, Outer, as_outer}
 use Rattle.expression_runs.specs.Assignments.{setting_of}
 use Rattle.expression_runs.specs.Values.{OverflowComes}
-use Rattle.expression_runs.proofs.Raises.{overflow_ends}
-use Rattle.element_runs.specs.Subscripts.{SubscriptComes}
-use Rattle.element_runs.proofs.Outside.{subscripts_end}
+use Rattle.error_units.specs.Errors.{ErrorGoes, ErrorRoutines}
+use Rattle.error_units.proofs.Conditions as E
+use Rattle.error_units.proofs.Conditions.{condition_by, divide_without, error_system, overflow_without, subscript_by}
+use Rattle.error_units.proofs.Errors.{error_deep, error_runs}
 use Rattle.operator_runs.specs.Divisors.{ZeroDivideComes}
-use Rattle.operator_runs.proofs.Divisors.{zero_divide_ends}
 use Rattle.number_runs.specs.Knowledge.{Includes, KnowsCalls, KnowsJumps, KnowsPuts, KnowsRaises, KnowsSignals}
 use Rattle.number_runs.specs.Numbers.{Scope}
 use Rattle.number_runs.specs.Variables.{words_in}
@@ -42,12 +42,12 @@ use Rattle.unit_runs.specs.Signals.{IsResumed}
 use Rattle.unit_runs.proofs.DeepRaises.{deep_overflow_ends, deep_raise_ends}
 use Rattle.unit_runs.proofs.UnitRuns.{RaisesTo, overflow_returns, raise_returns}
 use Rattle.unit_runs.proofs.UnitVariables.{none_made}
-use Rattle.phase_runs.proofs.Signals.{codes_are, signal_by, signal_ends}
+use Rattle.phase_runs.proofs.Signals.{codes_are, signal_by}
 use Rattle.nested_calls.specs.Nested.{parent_at}
 use Rattle.unit_numbers.specs.Calls.{has_unit}
 use Rattle.unit_numbers.proofs.Calls.{calls_of}
 use Rattle.unit_numbers.proofs.Divides.{deep_divide_ends, divide_returns}
-use Rattle.unit_numbers.proofs.Established.{InForce, Newest, error_system, in_force, list_placed, none_system}
+use Rattle.unit_numbers.proofs.Established.{InForce, Newest, in_force, list_placed, none_system}
 use Rattle.unit_numbers.proofs.Homes.{Home, IsHome', home_block}
 use Rattle.unit_numbers.proofs.Mains.{Main, block_for, level_of, list_of, main_begun, main_layer, most_for}
 use Rattle.unit_numbers.proofs.Outer.{main_saves, made_stacks}
@@ -55,7 +55,8 @@ use Rattle.unit_numbers.proofs.Past.{past_like}
 use Rattle.unit_numbers.proofs.Puts.{settled_writes}
 use Rattle.unit_numbers.proofs.Raised.{Case, part_of, raise_setting, unit_at, unit_entered, unit_raised}
 use Rattle.unit_numbers.proofs.Scenes.{EachBody, IsAbove, IsAt, IsInside, Part, Rises, block_of, scope_of}
-use Rattle.unit_numbers.proofs.Units.{IsOfNumbers, none_coded, unit_is}
+use Rattle.unit_numbers.proofs.Routines.{error_routines}
+use Rattle.unit_numbers.proofs.Units.{none_coded, unit_is}
 
 -- ---- a unit that is raised
 
@@ -95,18 +96,41 @@ unit_does {program} m h ih more b c o os a each own rises words labels includes 
             made = made;
             begun = b';
           } in
-          each h b (part_of m more x n.index u) (as_outer (unit_block z y r) [])
+          (each h b (part_of m more x n.index u) (as_outer (unit_block z y r) [])
           (as_outer (block_of m h o os) labels ∷ os)
-          ih (unit_entered m n q) (rises labels includes),
+          ih (unit_entered m n q) (rises labels includes)).each,
     )
 
 -- ---- the conditions
 
-error_at :
+pub error_at :
     MarkedOnce → {program : Y.Program} (m : Main program) (h : Home) → IsHome' m h → (more blocks : ℕ) (c : Part)
-    (o : Outer) (os : List Outer) → IsAt m h more blocks c o os → IsSystem (force o.first.state.activations C.Error)
-error_at once m h ih more blocks c o os a =
-    subst IsSystem (sym (a.forced C.Error)) (error_system once m h.input h.acts h.past ih.known)
+    (o : Outer) (os : List Outer) → IsAt m h (suc more) blocks c o os → EachBody m more → (own : List Label) →
+    Rises m h (block_of m h o os) own → (words : ℕ) (labels : List Label) → Includes own labels → (line : ℕ)
+    (r : ErrorRoutines (links_for program) (linked_code (code_for program))) →
+    ErrorGoes (Unit {0}) (raise_setting m h o os words labels line) r
+error_at once {program} m h ih more blocks c o os a each own rises words labels includes line r =
+    by blocks a (in_force once m h.input h.acts h.past ih.known C.Error)
+  where
+    by :
+        (blocks' : ℕ) → IsAt m h (suc more) blocks' c o os → InForce m h.input h.acts h.past C.Error →
+        ErrorGoes (Unit {0}) (raise_setting m h o os words labels line) r
+    by blocks' a' (inl system) =
+        let inside = r.routines.linked.inside in
+        error_system (Unit {0}) (raise_setting m h o os words labels line) r
+        (subst IsSystem (sym (a'.forced C.Error)) system) ih.few (omega (arith, inside))
+    by zero a' (inr n) = let some = a'.depth.some in absurd (omega (arith, some))
+    by (suc b) a' (inr n) =
+        let z = raise_setting m h o os words labels line in
+        let y = unit_at m more n.unit n.index in
+        by_decision (nat_lt (length o.first.state.activations) most_activations)
+        (λ few.
+        let e = unit_raised once m h ih more b c o os a' words labels line n true few in
+        error_runs (Unit {0}) z y more e.0
+        (unit_does m h ih more b c o os a' each own rises words labels includes line n e.0 e.1 few) n.condition r)
+        (λ many.
+        let e = unit_raised once m h ih more b c o os a' words labels line n false many in
+        error_deep (Unit {0}) z y more e.0 n.condition r)
 
 overflow_at :
     MarkedOnce → {program : Y.Program} (m : Main program) (h : Home) → IsHome' m h → (more blocks : ℕ) (c : Part)
@@ -114,15 +138,11 @@ overflow_at :
     Rises m h (block_of m h o os) own → (words : ℕ) (labels : List Label) → Includes own labels → (line : ℕ) →
     InForce m h.input h.acts h.past C.FixedOverflow → OverflowComes (raise_setting m h o os words labels line)
 overflow_at once {program} m h ih more blocks c o os a each own rises words labels includes line (inl system) =
-    let routines = raise_routines once program m.loadable in
-    let inside = routines.linked.inside in
-    overflow_ends (raise_setting m h o os words labels line) (record {
-      routines = routines;
-      overflow = subst IsSystem (sym (a.forced C.FixedOverflow)) system;
-      error = error_at once m h ih (suc more) blocks c o os a;
-      acts = ih.few;
-      most = omega (arith, inside);
-    })
+    let routines = error_routines once program m.loadable in
+    let inside = routines.routines.linked.inside in
+    overflow_without (raise_setting m h o os words labels line) routines
+    (error_at once m h ih more blocks c o os a each own rises words labels includes line routines)
+    (subst IsSystem (sym (a.forced C.FixedOverflow)) system) ih.few (omega (arith, inside))
 overflow_at once m h ih more zero c o os a each own rises words labels includes line (inr n) =
     let some = a.depth.some in absurd (omega (arith, some))
 overflow_at once m h ih more (suc b) c o os a each own rises words labels includes line (inr n) =
@@ -143,15 +163,11 @@ divide_at :
     Rises m h (block_of m h o os) own → (words : ℕ) (labels : List Label) → Includes own labels → (line : ℕ) →
     InForce m h.input h.acts h.past C.ZeroDivide → ZeroDivideComes (raise_setting m h o os words labels line)
 divide_at once {program} m h ih more blocks c o os a each own rises words labels includes line (inl system) =
-    let routines = raise_routines once program m.loadable in
-    let inside = routines.linked.inside in
-    zero_divide_ends (raise_setting m h o os words labels line) (record {
-      routines = routines;
-      divisor = subst IsSystem (sym (a.forced C.ZeroDivide)) system;
-      error = error_at once m h ih (suc more) blocks c o os a;
-      acts = ih.few;
-      most = omega (arith, inside);
-    })
+    let routines = error_routines once program m.loadable in
+    let inside = routines.routines.linked.inside in
+    divide_without (raise_setting m h o os words labels line) routines
+    (error_at once m h ih more blocks c o os a each own rises words labels includes line routines)
+    (subst IsSystem (sym (a.forced C.ZeroDivide)) system) ih.few (omega (arith, inside))
 divide_at once m h ih more zero c o os a each own rises words labels includes line (inr n) =
     let some = a.depth.some in absurd (omega (arith, some))
 divide_at once m h ih more (suc b) c o os a each own rises words labels includes line (inr n) =
@@ -168,9 +184,12 @@ divide_at once m h ih more (suc b) c o os a each own rises words labels includes
 
 -- ---- SIGNAL
 
-resumed_of : (c d : Condition) → c ≡ d → IsOfNumbers c → IsResumed d
-resumed_of c d same (inl e) = subst IsResumed same (subst IsResumed (sym e) tt)
-resumed_of c d same (inr e) = subst IsResumed same (subst IsResumed (sym e) tt)
+is_error : (c : Condition) → (C.Error ≡ c) ⊎ IsResumed c
+is_error C.Area = inr tt
+is_error C.FixedOverflow = inr tt
+is_error C.ZeroDivide = inr tt
+is_error C.Endfile = inr tt
+is_error C.Error = inl refl
 
 -- where it stands
 record Signal {program : Y.Program} (m : Main program) (h : Home) (o : Outer) (os : List Outer)
@@ -226,51 +245,56 @@ signal_at :
     MarkedOnce → {program : Y.Program} (m : Main program) (h : Home) → IsHome' m h → (more blocks : ℕ) (c : Part)
     (o : Outer) (os : List Outer) → IsAt m h (suc more) blocks c o os → EachBody m more → (own : List Label) →
     Rises m h (block_of m h o os) own → (labels : List Label) → Includes own labels → (condition : Condition)
-    (line index : ℕ) → Signal m h o os condition line index → InForce m h.input h.acts h.past condition →
+    (line index : ℕ) → Signal m h o os condition line index →
     Does (block_of m h o os) labels (Y.Signal condition line) index left_over
-signal_at once {program} m h ih more blocks c o os a each own rises labels includes condition line index z
-    (inl system) =
-    let routines = raise_routines once program m.loadable in
-    let inside = routines.linked.inside in
-    let here = z.linked.inside in
-    signal_ends (block_of m h o os) labels condition line index left_over
-    (record {
-      act = record { line_fits = z.fits; acts = ih.few };
-      statement = z.linked;
-      paid = omega (arith, inside, here);
-      routines = routines;
-      place = error_routine once program m.loadable;
-    })
-    (subst IsSystem (sym (a.forced condition)) system) (error_at once m h ih (suc more) blocks c o os a)
-signal_at once m h ih more zero c o os a each own rises labels includes condition line index z (inr n) =
-    let some = a.depth.some in absurd (omega (arith, some))
-signal_at once {program} m h ih more (suc b) c o os a each own rises labels includes condition line index z (inr n) =
-    let u = unit_is program m.called m.head (list_of m) n.unit n.placed.is in
-    signal_to m h ih o os labels condition line index (resumed_of n.unit.condition condition n.condition u.condition) z
-    (signal_in once m h ih more b c o os a each own rises labels includes line n)
+signal_at once {program} m h ih more blocks c o os a each own rises labels includes condition line index z =
+    by (is_error condition)
+  where
+    routines : ErrorRoutines (links_for program) (linked_code (code_for program))
+    routines = error_routines once program m.loadable
+
+    goes : ErrorGoes (Unit {0}) (raise_setting m h o os 0 labels line) routines
+    goes = error_at once m h ih more blocks c o os a each own rises 0 labels includes line routines
+
+    raises :
+        (blocks' : ℕ) → IsAt m h (suc more) blocks' c o os → InForce m h.input h.acts h.past condition →
+        RaisesTo (raise_setting m h o os 0 labels line) condition (code_signalled condition)
+    raises blocks' a' (inl system) =
+        let inside = routines.routines.linked.inside in
+        condition_by (raise_setting m h o os 0 labels line) routines goes condition
+        (subst IsSystem (sym (a'.forced condition)) system) ih.few (omega (arith, inside)) (code_signalled condition)
+        (codes_are condition)
+    raises zero a' (inr n) = let some = a'.depth.some in absurd (omega (arith, some))
+    raises (suc b) a' (inr n) = signal_in once m h ih more b c o os a' each own rises labels includes line n
+
+    by : (C.Error ≡ condition) ⊎ IsResumed condition →
+        Does (block_of m h o os) labels (Y.Signal condition line) index left_over
+    by (inl error) =
+        let here = z.linked.inside in
+        subst (λ d. Linked (links_for program) (linked_code (code_for program)) index
+        (stmt_code o.environment none_taken (Y.Signal d line)) →
+        Does (block_of m h o os) labels (Y.Signal d line) index left_over) error
+        (λ l.
+        let here' = l.inside in
+        E.signal_by (block_of m h o os) labels line index left_over (most_for program) routines
+        (record {
+          act = record { line_fits = z.fits; acts = ih.few };
+          statement = l;
+          paid = omega (arith, here');
+        })
+        goes)
+        z.linked
+    by (inr resumed) =
+        signal_to m h ih o os labels condition line index resumed z
+        (raises blocks a (in_force once m h.input h.acts h.past ih.known condition))
 
 -- ---- subscripts
-
-subscript_at :
-    MarkedOnce → {program : Y.Program} (m : Main program) (h : Home) → IsHome' m h → (more blocks : ℕ) (c : Part)
-    (o : Outer) (os : List Outer) → IsAt m h more blocks c o os → (words : ℕ) (labels : List Label) (line : ℕ) →
-    SubscriptComes (raise_setting m h o os words labels line)
-subscript_at once {program} m h ih more blocks c o os a words labels line =
-    let routines = raise_routines once program m.loadable in
-    let inside = routines.linked.inside in
-    subscripts_end (raise_setting m h o os words labels line) (record {
-      routines = routines;
-      place = error_routine once program m.loadable;
-      error = error_at once m h ih more blocks c o os a;
-      acts = ih.few;
-      most = omega (arith, inside);
-    })
 
 raises_of :
     MarkedOnce → {program : Y.Program} (m : Main program) (h : Home) → IsHome' m h → (more blocks : ℕ) (c : Part)
     (o : Outer) (os : List Outer) → IsAt m h (suc more) blocks c o os → EachBody m more → (own : List Label) →
     Rises m h (block_of m h o os) own → KnowsRaises (scope_of m c) (block_of m h o os) own (most_for program)
-raises_of once m h ih more blocks c o os a each own rises =
+raises_of once {program} m h ih more blocks c o os a each own rises =
     record {
       overflow = λ may words set labels line includes.
           overflow_at once m h ih more blocks c o os a each own rises words labels includes line
@@ -279,7 +303,9 @@ raises_of once m h ih more blocks c o os a each own rises =
           divide_at once m h ih more blocks c o os a each own rises words labels includes line
           (in_force once m h.input h.acts h.past ih.known C.ZeroDivide);
       subscript = λ may words set labels line includes.
-          subscript_at once m h ih (suc more) blocks c o os a words labels line;
+          let routines = error_routines once program m.loadable in
+          subscript_by (raise_setting m h o os words labels line) routines
+          (error_at once m h ih more blocks c o os a each own rises words labels includes line routines);
     }
 
 -- ---- what is written
@@ -287,9 +313,11 @@ raises_of once m h ih more blocks c o os a each own rises =
 -- nothing for which there is a unit is raised there
 puts_of :
     MarkedOnce → {program : Y.Program} (m : Main program) (h : Home) → IsHome' m h → (more blocks : ℕ) (c : Part)
-    (o : Outer) (os : List Outer) → IsAt m h more blocks c o os → c.writes ≡ true →
+    (o : Outer) (os : List Outer) → IsAt m h more blocks c o os → (scope_of m c).puts ≡ true →
     KnowsPuts (scope_of m c) (block_of m h o os) (most_for program)
-puts_of once {program} m h ih more blocks c o os a writes =
+puts_of once {program} m h ih more blocks c o os a puts =
+    let parts = and_parts c.writes (not (has_unit C.Error (list_of m))) puts in
+    let writes = parts.0 in
     let routines = raise_routines once program m.loadable in
     let inside = routines.linked.inside in
     let none : (d : Condition) → not (c.writes && has_unit d (list_of m)) ≡ true →
@@ -303,13 +331,15 @@ puts_of once {program} m h ih more blocks c o os a writes =
       place = error_routine once program m.loadable;
       overflow = none C.FixedOverflow;
       divisor = none C.ZeroDivide;
-      error = error_at once m h ih more blocks c o os a;
+      error = subst IsSystem (sym (a.forced C.Error))
+          (none_system once m h.input h.acts h.past ih.known C.Error parts.1);
       acts = ih.few;
       few = omega (arith, inside);
       variables = a.variables;
       arrays = λ may. a.arrays;
       narrows = λ may. a.narrows;
       parameters = λ x is. absurd (cc is);
+      code = a.code;
       wordless = refl;
       lists = lists_known program (block_of m h o os) m.memory a.told;
     })
@@ -405,6 +435,6 @@ knows_of once m h ih more blocks c o os a inner each own rises =
       jumps = jumps_of once m h ih (suc more) blocks c o os a inner own;
       signals = λ labels condition line index includes may fits l.
           signal_at once m h ih more blocks c o os a each own rises labels includes condition line index
-          (record { fits = fits; linked = l }) (in_force once m h.input h.acts h.past ih.known condition);
+          (record { fits = fits; linked = l });
       puts = λ may. puts_of once m h ih (suc more) blocks c o os a may;
     }

@@ -18,9 +18,12 @@ use Rattle.program_places.specs.Programs.{code_for, links_for}
 use Rattle.program_runs.specs.Calls.{left_over}
 use Rattle.program_runs.specs.Starts.{image_parts}
 use Rattle.program_runs.specs.Statements.{Block, EachDoes, IsBegun, Outer, as_outer, outer_block}
+use Rattle.expression_runs.specs.Assignments.{setting_of}
 use Rattle.expression_runs.specs.Variables.{IsNumber, Spot}
 use Rattle.element_runs.specs.Arrays.{IsArray}
 use Rattle.scalar_runs.specs.Scalars.{IsScalar}
+use Rattle.condition_codes.specs.Codes.{HasCode}
+use Rattle.error_units.specs.Errors.{ErrorGoes, ErrorRoutines}
 use Rattle.counter_runs.proofs.Known.{array_told, number_told}
 use Rattle.counter_runs.proofs.Words.{begun_telling}
 use Rattle.argument_runs.specs.Lists.{with_list}
@@ -34,7 +37,7 @@ use Rattle.number_headlines.specs.Programs.{most_waiting}
 use Rattle.number_headlines.proofs.Running.{Free, HasDepth, HasTable}
 use Rattle.unit_numbers.specs.Calls.{scope_in}
 use Rattle.unit_numbers.proofs.Homes.{Home, IsHome', home_block, world_of}
-use Rattle.unit_numbers.proofs.Mains.{Main, list_of, main_scope}
+use Rattle.unit_numbers.proofs.Mains.{Main, list_of, main_scope, most_for}
 
 -- ---- what runs
 
@@ -89,6 +92,8 @@ pub record IsAt {program : Y.Program} (m : Main program) (h : Home) (more blocks
         (x : Spot) → is_narrow_known (main_scope m false) x ≡ true →
         IsScalar (block_of m h o os) x (type_known (main_scope m false) x)
     pub idle : o.first.control.waiting ≡ None
+    -- ONCODE is a condition's code, or 0
+    pub code : HasCode (block_of m h o os)
     -- what the program tells of its static data is told there
     pub told : IsOf program (block_of m h o os)
     pub free : Free (world_of m h) o.first blocks
@@ -181,6 +186,7 @@ at_told {program} {m} {h} {more} {blocks} {c} {o} {os} a waits =
       main_narrows = λ x is.
           narrow_told k φ φs waits free.newest x (type_known (main_scope m false) x) (a.main_narrows x is);
       idle = a.idle;
+      code = a.code;
       told = record { code = a.told.code; links = a.told.links; constants = a.told.constants };
       free = record {
         layer = with_waits waits φ;
@@ -198,7 +204,16 @@ at_told {program} {m} {h} {more} {blocks} {c} {o} {os} a waits =
 
 -- ---- what is proved of each block that may be entered so many deep
 
+-- its statements do what they mean, and so does ERROR behind them
+pub record BodyGoes {program : Y.Program} (m : Main program) (h : Home) (c : Part) (o : Outer) (os : List Outer)
+    : Type 0
+  where
+    pub each : EachDoes (block_of m h o os) (labels_in c.body ++ []) c.body c.index left_over
+    pub error :
+        (line : ℕ) (r : ErrorRoutines (links_for program) (linked_code (code_for program))) →
+        ErrorGoes (Unit {0}) (setting_of (block_of m h o os) [] line (most_for program)) r
+
 abbrev pub EachBody : {program : Y.Program} → Main program → (more : ℕ) → Type 0
 EachBody {program} m more =
     (h : Home) (blocks : ℕ) (c : Part) (o : Outer) (os : List Outer) → IsHome' m h → IsEntered m h more blocks c o os →
-    IsAbove m h os → EachDoes (block_of m h o os) (labels_in c.body ++ []) c.body c.index left_over
+    IsAbove m h os → BodyGoes m h c o os

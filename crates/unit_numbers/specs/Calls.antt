@@ -39,8 +39,9 @@ has_unit c body = list_any (λ x. same_condition x.condition c) (all_units_in bo
 
 -- a block whose statements may name the variables that a block may name, and call what that may: itself, or the main
 -- procedure, of which it is a unit. It writes numbers, and then raises no condition for which the main procedure's list
--- has a unit, so that none is raised while a place in a format list is in use; or it writes none. A unit doesn't
--- return, and may jump to the labels of that list.
+-- has a unit, so that none is raised while a place in a format list is in use; or it writes none. Since writing raises
+-- ERROR, nothing is written where that list has a unit for it. A unit doesn't return, and may jump to the labels of
+-- that list.
 abbrev pub scope_in :
     Y.Program → List ℕ → (all : Y.Stmts) → (caller : Y.BlockHead) → (unit writes : Bool) → Scope
 scope_in program ns all caller unit writes =
@@ -57,7 +58,7 @@ scope_in program ns all caller unit writes =
       is_given_function = λ count level n. false;
       is_given_procedure = λ count level n. false;
       counts = true;
-      puts = writes;
+      puts = writes && not (has_unit C.Error all);
       overflows = not (writes && has_unit C.FixedOverflow all);
       divides = not (writes && has_unit C.ZeroDivide all);
       narrows = true;
@@ -66,6 +67,7 @@ scope_in program ns all caller unit writes =
       own = not unit;
       is_outer = λ level label. unit && ((level == caller.level) && is_among label (labels_in all));
       signals = λ c. true;
+      codes = true;
     }
 
 -- it does one or the other
