@@ -37,14 +37,13 @@ use Rattle.run_steps.proofs.Reach.{reach_then, reached_holds, stay}
 use Rattle.block_runs.specs.Machines.{AreIn, IsImage, IsIn}
 use Rattle.program_runs.specs.Calls.{AreMade, Callee, act_index, begun_at, variables_index}
 use Rattle.program_runs.specs.Procedures.{beginning_for, layer_for}
-use Rattle.program_runs.specs.Names.{named_of}
 use Rattle.program_runs.specs.Variables.{Declared, IsDeclared, generation_for, made_of}
-use Rattle.program_runs.proofs.Variables.{becomes_comes, made_becomes, variable_means}
+use Rattle.program_runs.proofs.Variables.{variable_means}
 use Rattle.variable_runs.specs.Areas.{IsArea}
 use Rattle.variable_runs.specs.Lists.{AreAll, AreDeclared, AreListed, AreThose, all_made, behind_made}
 use Rattle.variable_runs.specs.Lists.{layer_after, layer_behind, made_code, made_now, told_by}
-use Rattle.variable_runs.proofs.AreaMemory as A
-use Rattle.variable_runs.proofs.AreaVariables.{area_comes, area_means}
+use Rattle.variable_runs.proofs.AreaVariables.{area_means}
+use Rattle.variable_runs.proofs.Lists as V
 use Rattle.variable_runs.proofs.Lists.{Binds, layers_after}
 use Rattle.initial_runs.specs.Lists.{AllMayBegin, AreAllBegun, MayBegin}
 use Rattle.initial_runs.specs.Variables.{IsInitial}
@@ -53,27 +52,13 @@ use Rattle.initial_runs.proofs.Variables.{initial_comes, initial_means}
 
 -- ---- one of them
 
--- what is told then of a variable of values, and of an area
-values_now :
-    (w : Surroundings) (p : Point) (x : Declared) (φ : Layer) (φs : List Layer) → IsDeclared w p x φ φs →
-    with_made (made_of w.parts φ x) p ≡ behind_made w.parts φ x p
-values_now w p x φ φs is =
-    sym (ap (λ o. with_made (record (made_of w.parts φ x) { told = told_by o x.place (p.state.serials + 1) φ.told }) p)
-    is.fixed)
-
+-- nothing is told of the name of what begins with values
 initial_now :
     (w : Surroundings) (code : List Instr) (p : Point) (x : Declared) (φ : Layer) (φs : List Layer) →
     IsInitial w code p x φ φs → with_made (made_of w.parts φ x) p ≡ behind_made w.parts φ x p
 initial_now w code p x φ φs is =
     sym (ap (λ o. with_made (record (made_of w.parts φ x) { told = told_by o x.place (p.state.serials + 1) φ.told }) p)
-    is.fixed)
-
-area_now :
-    (w : Surroundings) (p : Point) (x : Declared) (φ : Layer) (φs : List Layer) → IsArea w p x φ φs →
-    with_made (named_of w.parts (p.state.serials + 1) φ x) p ≡ behind_made w.parts φ x p
-area_now w p x φ φs is =
-    sym (ap (λ o. with_made (record (made_of w.parts φ x) { told = told_by o x.place (p.state.serials + 1) φ.told }) p)
-    is.fixed)
+    is.initial.datum)
 
 next_stands :
     (w : Surroundings) (code : List Instr) (p : Point) (x : Declared) (φ : Layer) (φs : List Layer) →
@@ -82,12 +67,7 @@ next_stands :
 next_stands w code p x φ φs known (inl is) =
     subst (λ q. Stands w q × IsImage w code q) (initial_now w code p x φ φs is)
     (I.made_stands (record { stands = known.0; image = known.1; is = is }))
-next_stands w code p x φ φs known (inr (inl is)) =
-    subst (λ q. Stands w q × IsImage w code q) (values_now w p x φ φs is)
-    (made_becomes (record { stands = known.0; image = known.1; is = is })).stands
-next_stands w code p x φ φs known (inr (inr is)) =
-    subst (λ q. Stands w q × IsImage w code q) (area_now w p x φ φs is)
-    (A.made_stands (record { stands = known.0; image = known.1; is = is }))
+next_stands w code p x φ φs known (inr is) = V.next_stands w code p x φ φs known is
 
 next_comes :
     (w : Surroundings) (code : List Instr) (e : Environment) (p : Point) (numbers : ℕ → ℕ) (x : Declared) (φ : Layer)
@@ -101,15 +81,8 @@ next_comes w code e p numbers x φ φs c index f known (inl is) same l there =
     subst (λ q. Reach code c f (services_of p) (c + size_of (constant_made e x.place x.declared)) (services_of q)
     (λ b y. IsIn w q numbers (index + size_of (constant_made e x.place x.declared)) b y))
     (initial_now w code p x φ φs is) (initial_comes w code e p numbers x φ φs c index f known is same l there)
-next_comes w code e p numbers x φ φs c index f known (inr (inl is)) same l there =
-    subst (λ q. Reach code c f (services_of p) (c + size_of (constant_made e x.place x.declared)) (services_of q)
-    (λ b y. IsIn w q numbers (index + size_of (constant_made e x.place x.declared)) b y)) (values_now w p x φ φs is)
-    (becomes_comes w code e p (with_made (made_of w.parts φ x) p) numbers x φ φs c index f known is
-    (made_becomes (record { stands = known.0; image = known.1; is = is })) same l there)
-next_comes w code e p numbers x φ φs c index f known (inr (inr is)) same l there =
-    subst (λ q. Reach code c f (services_of p) (c + size_of (constant_made e x.place x.declared)) (services_of q)
-    (λ b y. IsIn w q numbers (index + size_of (constant_made e x.place x.declared)) b y)) (area_now w p x φ φs is)
-    (area_comes w code e p numbers x φ φs c index f known is same l there)
+next_comes w code e p numbers x φ φs c index f known (inr is) same l there =
+    V.next_comes w code e p numbers x φ φs c index f known is same l there
 
 next_means :
     (w : Surroundings) (code : List Instr) (p : Point) (x : Declared) (φ : Layer) (φs : List Layer) (acts : ℕ) →

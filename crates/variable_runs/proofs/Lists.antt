@@ -1,6 +1,6 @@
 -- Variables that are made one behind the other: a procedure makes all that it declares.
-use Rattle.std.proofs.Common.{◌≡◌, ℕ, ◌+◌, ◌^◌, ◌<◌, ◌≤◌, inl, inr, List, [], ◌∷◌, length, Some, false, refl, sym}
-use Rattle.std.proofs.Common.{ap, ◌∙◌, subst, arith}
+use Rattle.std.proofs.Common.{◌≡◌, ℕ, ◌+◌, ◌^◌, ◌<◌, ◌≤◌, inl, inr, List, [], ◌∷◌, length, None, Some, false, refl}
+use Rattle.std.proofs.Common.{sym, ap, ◌∙◌, subst, arith}
 use Rattle.std.specs.Prelude.{Bool, nat_lt, pos, true}
 use Rattle.std.proofs.lemmas.Bool.{lt-ltb, ltb-true}
 use Rattle.rv_meaning.specs.declared.instr.Instr.{Instr}
@@ -21,6 +21,7 @@ use Rattle.pli_coding.specs.Entries.{constant_made}
 use Rattle.pli_coding.specs.Environments.{Environment}
 use Rattle.pli_coding.specs.Frames.{MemoryParts, is_automatic}
 use Rattle.pli_coding.specs.Locating.{table_number}
+use Rattle.pli_coding.specs.StaticForms.{initial_datum}
 use Rattle.storage_relation.specs.Stored.{Lives}
 use Rattle.storage_relation.proofs.Living.{lives_added}
 use Rattle.activation_relation.specs.Landing.{Changed, resumed}
@@ -42,20 +43,23 @@ use Rattle.program_runs.specs.Variables.{Declared, IsDeclared, generation_for, m
 use Rattle.program_runs.proofs.Variables.{becomes_comes, made_becomes, variable_means}
 use Rattle.variable_runs.specs.Areas.{IsArea}
 use Rattle.variable_runs.specs.Lists.{AreAll, AreDeclared, AreListed, AreThose, Declares, all_made, behind_made}
-use Rattle.variable_runs.specs.Lists.{layer_after, layer_behind, made_code, made_now, told_if}
+use Rattle.variable_runs.specs.Lists.{layer_after, layer_behind, made_code, made_now, told_by, told_if}
 use Rattle.variable_runs.proofs.AreaMemory as A
 use Rattle.variable_runs.proofs.AreaVariables.{area_comes, area_means}
 
 -- ---- one of them
 
 -- what is told then, by whether its serial number has two words
-now_is :
-    (w : Surroundings) (p : Point) (x : Declared) (φ : Layer) (q : Bool) → nat_lt (p.state.serials + 1) (2 ^ 64) ≡ q →
+pub now_is :
+    (w : Surroundings) (p : Point) (x : Declared) (φ : Layer) (q : Bool) → initial_datum x.declared ≡ None →
+    nat_lt (p.state.serials + 1) (2 ^ 64) ≡ q →
     with_made (record (made_of w.parts φ x) { told = told_if q x.place (p.state.serials + 1) φ.told }) p
     ≡ behind_made w.parts φ x p
-now_is w p x φ q e =
+now_is w p x φ q none e =
     ap (λ t. with_made (record (made_of w.parts φ x) { told = told_if t x.place (p.state.serials + 1) φ.told }) p)
     (sym e)
+    ∙ ap (λ o. with_made (record (made_of w.parts φ x) { told = told_by o x.place (p.state.serials + 1) φ.told }) p)
+    (sym none)
 
 -- that of an area has
 area_few :
@@ -73,12 +77,12 @@ next_stands w code p x φ φs known (inl is) = by (nat_lt (p.state.serials + 1) 
         (q : Bool) → nat_lt (p.state.serials + 1) (2 ^ 64) ≡ q →
         Stands w (behind_made w.parts φ x p) × IsImage w code (behind_made w.parts φ x p)
     by true e =
-        subst (λ q. Stands w q × IsImage w code q) (now_is w p x φ true e) (name_stands w code p x φ φs known is)
+        subst (λ q. Stands w q × IsImage w code q) (now_is w p x φ true is.initial e) (name_stands w code p x φ φs known is)
     by false e =
-        subst (λ q. Stands w q × IsImage w code q) (now_is w p x φ false e)
+        subst (λ q. Stands w q × IsImage w code q) (now_is w p x φ false is.initial e)
         (made_becomes (record { stands = known.0; image = known.1; is = is })).stands
 next_stands w code p x φ φs known (inr is) =
-    subst (λ q. Stands w q × IsImage w code q) (now_is w p x φ true (area_few is))
+    subst (λ q. Stands w q × IsImage w code q) (now_is w p x φ true is.initial (area_few is))
     (A.made_stands (record { stands = known.0; image = known.1; is = is }))
 
 pub next_comes :
@@ -99,17 +103,17 @@ next_comes w code e p numbers x φ φs c index f known (inl is) same l there =
         (λ b y. IsIn w (behind_made w.parts φ x p) numbers (index + size_of (constant_made e x.place x.declared)) b y)
     by true e' =
         subst (λ q. Reach code c f (services_of p) (c + size_of (constant_made e x.place x.declared)) (services_of q)
-        (λ b y. IsIn w q numbers (index + size_of (constant_made e x.place x.declared)) b y)) (now_is w p x φ true e')
+        (λ b y. IsIn w q numbers (index + size_of (constant_made e x.place x.declared)) b y)) (now_is w p x φ true is.initial e')
         (name_comes w code e p numbers x φ φs c index f known is (ltb-true _ (2 ^ 64) e') same l there)
     by false e' =
         subst (λ q. Reach code c f (services_of p) (c + size_of (constant_made e x.place x.declared)) (services_of q)
-        (λ b y. IsIn w q numbers (index + size_of (constant_made e x.place x.declared)) b y)) (now_is w p x φ false e')
+        (λ b y. IsIn w q numbers (index + size_of (constant_made e x.place x.declared)) b y)) (now_is w p x φ false is.initial e')
         (becomes_comes w code e p (with_made (made_of w.parts φ x) p) numbers x φ φs c index f known is
         (made_becomes (record { stands = known.0; image = known.1; is = is })) same l there)
 next_comes w code e p numbers x φ φs c index f known (inr is) same l there =
     subst (λ q. Reach code c f (services_of p) (c + size_of (constant_made e x.place x.declared)) (services_of q)
     (λ b y. IsIn w q numbers (index + size_of (constant_made e x.place x.declared)) b y))
-    (now_is w p x φ true (area_few is))
+    (now_is w p x φ true is.initial (area_few is))
     (area_comes w code e p numbers x φ φs c index f known is same l there)
 
 next_means :

@@ -6,11 +6,12 @@ use Rattle.rv_meaning.specs.declared.instr.Instr.{Instr}
 use Rattle.pli_typing.specs.TypedTree as Y
 use Rattle.pli_meaning.specs.DeclaredShapes.{shape_of, variables_of_block}
 use Rattle.pli_serving.specs.Arguments.{capacity_of}
-use Rattle.pli_coding.specs.Assembly.{Code}
+use Rattle.pli_coding.specs.Assembly.{Code, Datum}
 use Rattle.pli_coding.specs.Entries.{constant_made}
 use Rattle.pli_coding.specs.Environments.{Environment}
 use Rattle.pli_coding.specs.Frames.{MemoryParts, is_automatic}
 use Rattle.pli_coding.specs.Locating.{table_number}
+use Rattle.pli_coding.specs.StaticForms.{initial_datum}
 use Rattle.activation_relation.specs.Layers.{Layer, Point}
 use Rattle.activation_relation.specs.Points.{Surroundings}
 use Rattle.activation_relation.specs.Variables.{Made, grown, with_made}
@@ -23,16 +24,19 @@ use Rattle.variable_runs.specs.Areas.{IsArea}
 
 -- ---- where they are made
 
--- what is told of the words of its name from then on, which services read, if its serial number has two words
+-- what is told of the words of its name from then on, which services read, if its serial number has two words, and
+-- nothing is given to it
 abbrev pub told_if : Bool → (place serial : ℕ) → (ℕ → Option ℕ) → ℕ → Option ℕ
 told_if true place serial told = name_told place serial told
 told_if false place serial told = told
 
-abbrev pub told_by : (place serial : ℕ) → (ℕ → Option ℕ) → ℕ → Option ℕ
-told_by place serial told = told_if (nat_lt serial (2 ^ 64)) place serial told
+abbrev pub told_by : Option Datum → (place serial : ℕ) → (ℕ → Option ℕ) → ℕ → Option ℕ
+told_by None place serial told = told_if (nat_lt serial (2 ^ 64)) place serial told
+told_by (Some initial) place serial told = told
 
 abbrev pub made_now : MemoryParts → (serial : ℕ) → Layer → Declared → Made
-made_now parts serial φ x = record (made_of parts φ x) { told = told_by x.place serial φ.told }
+made_now parts serial φ x =
+    record (made_of parts φ x) { told = told_by (initial_datum x.declared) x.place serial φ.told }
 
 -- the newest block's layer behind one, and behind them all
 abbrev pub layer_behind : MemoryParts → (serial : ℕ) → Layer → Declared → Layer
