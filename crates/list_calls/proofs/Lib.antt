@@ -19,3 +19,4 @@ pub mod VariablesPassed
 pub mod ListRows
 pub mod WordsBeside
 pub mod WordsKnown
+pub mod Telling

@@ -33,6 +33,17 @@ pub record IsNamed (k : Block) (x : Spot) (serial signature : ℕ) : Type 0 wher
   pub small : signature < 2 ^ 31
   pub few : serial < 2 ^ 64
 
+-- it is a number, whose name is told of the frame that it stands in
+pub record IsTelling (k : Block) (x : Spot) : Type 0 where
+  pub number : IsNumber k x
+  pub told :
+      HasTold k.first.control.layers number.base
+      (record {
+        serial = number.serial;
+        signature = 0;
+        place = automatic_place k.environment.parts k.environment.program x.block x.level x.index;
+      })
+
 -- its name may be passed
 abbrev pub VariablesPassed : Type 0
 VariablesPassed =
