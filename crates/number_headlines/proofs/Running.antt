@@ -51,7 +51,7 @@ use Rattle.number_runs.specs.Numbers.{bounds_known, is_array_known, is_known, is
 use Rattle.number_runs.proofs.Narrow.{narrow_told}
 use Rattle.number_runs.specs.Statements.{are_statements, statements_need, statements_set}
 use Rattle.number_runs.specs.Variables.{AreTabled}
-use Rattle.number_runs.proofs.Received.{parameter_told}
+use Rattle.list_calls.proofs.ParametersPassed.{parameter_told}
 use Rattle.number_runs.proofs.Waiting.{array_waits, narrow_waits, parameter_waits}
 use Rattle.number_headlines.specs.Programs.{most_waiting, scope_of}
 use Rattle.list_calls.specs.Passed.{IsTelling}

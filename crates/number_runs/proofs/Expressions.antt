@@ -57,7 +57,8 @@ use Rattle.number_runs.specs.Numbers.{IsBare, without_located}
 use Rattle.number_runs.specs.Narrow.{is_number_type, is_text_type}
 use Rattle.number_runs.proofs.Arrays.{element_is, subscript_given}
 use Rattle.number_runs.proofs.Narrow.{flag_does, narrow_does, narrow_told, narrow_with_is, text_known, text_type_is}
-use Rattle.number_runs.proofs.Received.{named_told, parameter_told, passable_told, stored_untold}
+use Rattle.list_calls.proofs.ParametersPassed.{parameter_told, parameters_passed}
+use Rattle.number_runs.proofs.Received.{named_told, passable_told, stored_untold}
 use Rattle.number_runs.proofs.Variables.{Names, parameter_is, variable_is, ways_are, ways_many, ways_of, ways_stored}
 use Rattle.number_runs.proofs.Turns.{telling_same}
 use Rattle.number_runs.proofs.Waiting.{numbers_wait, numbers_without, texts_without, texts_unlocated}

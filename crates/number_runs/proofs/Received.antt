@@ -14,55 +14,9 @@ use Rattle.list_calls.specs.Passed.{HasTold, IsNamed}
 use Rattle.reference_runs.specs.References.{Reference}
 use Rattle.word_runs.proofs.Words.{number_told}
 use Rattle.number_runs.specs.Knowledge.{IsPassable}
-use Rattle.counter_runs.specs.Words.{telling}
-use Rattle.counter_runs.proofs.Words.{begun_telling}
+use Rattle.word_runs.specs.Words.{telling}
 use Rattle.edit_runs.specs.Edits.{placing}
 use Rattle.edit_runs.proofs.Places.{begun_placed}
-
-heads_same : (φ ψ : Layer) (φs ψs : List Layer) → φ ∷ φs ≡ ψ ∷ ψs → φ ≡ ψ
-heads_same φ ψ φs ψs e = cc e
-
-tails_same : (φ ψ : Layer) (φs ψs : List Layer) → φ ∷ φs ≡ ψ ∷ ψs → φs ≡ ψs
-tails_same φ ψ φs ψs e = cc e
-
-pub parameter_told :
-    (k : Block) (φ : Layer) (φs : List Layer) (waits : ℕ → Option ℕ) → k.first.control.layers ≡ φ ∷ φs → (x : Spot) →
-    IsParameter k x → IsParameter (telling waits φ φs k) x
-parameter_told k φ φs waits newest x is =
-    let same = sym newest ∙ is.layers in
-    let mine = heads_same φ is.layer φs (is.caller ∷ is.others) same in
-    let rest = tails_same φ is.layer φs (is.caller ∷ is.others) same in
-    record {
-      begun = begun_telling k φ φs waits newest is.begun;
-      declared = is.declared;
-      place = is.place;
-      numbered_so = is.numbered_so;
-      near = is.near;
-      own = is.own;
-      serial = is.serial;
-      binding = is.binding;
-      living = is.living;
-      lives = is.lives;
-      shape = is.shape;
-      layer = with_waits waits φ;
-      caller = is.caller;
-      others = is.others;
-      signature = is.signature;
-      layers = ap (λ ls. with_waits waits φ ∷ ls) rest;
-      at = is.at;
-      list = ap (λ (ψ : Layer). ψ.list) mine ∙ is.list;
-      last = is.last;
-      under = is.under;
-      name = is.name;
-      level = ap (λ (ψ : Layer). ψ.level) mine ∙ is.level;
-      few = is.few;
-      words = is.words;
-      small = is.small;
-      number = is.number;
-      numbered = is.numbered;
-      low = is.low;
-      inside = is.inside;
-    }
 
 pub parameter_placed :
     (k : Block) (place : EditPlace) (x : Spot) → IsParameter k x → IsParameter (placing place k) x

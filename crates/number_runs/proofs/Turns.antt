@@ -26,7 +26,8 @@ use Rattle.number_runs.specs.Knowledge.{AreStandingWith, HasFrame, IsHome, IsRea
 use Rattle.number_runs.specs.Knowledge.{StandingWith, KnowsAroundTexts, KnowsCalls, KnowsRaises, KnowsPuts}
 use Rattle.number_runs.specs.Numbers.{Scope, bounds_known, type_known, without_located}
 use Rattle.number_runs.proofs.Narrow.{narrow_told}
-use Rattle.number_runs.proofs.Received.{parameter_told, passable_told, stored_untold}
+use Rattle.list_calls.proofs.ParametersPassed.{parameter_told}
+use Rattle.number_runs.proofs.Received.{passable_told, stored_untold}
 use Rattle.number_runs.proofs.Waiting.{waiting_without, waiting_unlocated}
 
 -- ---- words in which nothing waits
