@@ -65,13 +65,13 @@ use Rattle.list_calls.proofs.NamePassing.{Finds, HasNameAt, Signs, answered_regs
 
 -- ---- a parameter of a block is one while words of its frame tell something
 
-heads_same : (φ ψ : Layer) (φs ψs : List Layer) → φ ∷ φs ≡ ψ ∷ ψs → φ ≡ ψ
+pub heads_same : (φ ψ : Layer) (φs ψs : List Layer) → φ ∷ φs ≡ ψ ∷ ψs → φ ≡ ψ
 heads_same φ ψ φs ψs e = cc e
 
-tails_same : (φ ψ : Layer) (φs ψs : List Layer) → φ ∷ φs ≡ ψ ∷ ψs → φs ≡ ψs
+pub tails_same : (φ ψ : Layer) (φs ψs : List Layer) → φ ∷ φs ≡ ψ ∷ ψs → φs ≡ ψs
 tails_same φ ψ φs ψs e = cc e
 
-pub parameter_told :
+unfoldable pub parameter_told :
     (k : Block) (φ : Layer) (φs : List Layer) (waits : ℕ → Option ℕ) → k.first.control.layers ≡ φ ∷ φs → (x : Spot) →
     IsParameter k x → IsParameter (telling waits φ φs k) x
 parameter_told k φ φs waits newest x is =

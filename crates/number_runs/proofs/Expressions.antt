@@ -3,6 +3,7 @@ use Rattle.std.proofs.Common.{◌≡◌, ◌⊎◌, inl, inr, ℕ, ◌+◌, ◌*
 use Rattle.std.proofs.Common.{sym, ap, ◌<◌, ◌∙◌, subst, arith, [], false}
 use Rattle.std.specs.Prelude.{◌&&◌, ◌==◌, ◌/◌, ◌%◌, cond, max, suc, nat_le, nat_lt}
 use Rattle.storage_relation.proofs.Holders.{eqb-other}
+use Rattle.storage_relation.proofs.Placing.{none_above}
 use Rattle.rv_meaning.specs.Words.{word}
 use Rattle.std.proofs.lemmas.Bool.{and_parts, eqb-true, ltb-true, or_cases, leb-true}
 use Rattle.pli_typing.specs.TypedTree as Y
@@ -12,9 +13,10 @@ use Rattle.activation_relation.specs.Layers.{Layer}
 use Rattle.pli_meaning.specs.Texts.{most_text}
 use Rattle.pli_serving.specs.ServiceState.{Entry, TextEntry}
 use Rattle.pli_coding.specs.Assembly.{ConstantBytes}
+use Rattle.program_runs.specs.Statements.{Block}
 use Rattle.expression_runs.specs.Laws.{Does}
 use Rattle.expression_runs.specs.Values.{Setting}
-use Rattle.expression_runs.specs.Variables.{variable_of}
+use Rattle.expression_runs.specs.Variables.{Spot, variable_of, whole}
 use Rattle.expression_runs.proofs.Operands.{constant_does}
 use Rattle.expression_runs.proofs.Sums.{difference_does, sum_does}
 use Rattle.expression_runs.proofs.VariablePoints.{variable_does}
@@ -38,10 +40,12 @@ use Rattle.text_values.proofs.Comparisons.{above_bit, alone_bit, texts_compare}
 use Rattle.text_values.proofs.Constants.{constant_pushes}
 use Rattle.text_values.proofs.Conversions.{bit_pushes, text_tells}
 use Rattle.text_values.proofs.Variables.{variable_pushes}
+use Rattle.argument_runs.specs.Parameters.{IsParameter, parameter, parameter_of}
 use Rattle.argument_runs.proofs.Parameters.{parameter_does}
 use Rattle.counter_runs.proofs.Known.{array_told, number_told}
 use Rattle.counter_runs.proofs.Words.{begun_telling}
 use Rattle.list_calls.specs.Arguments.{EachGives, setting_told}
+use Rattle.list_calls.specs.ListKnown.{IsStored}
 use Rattle.list_calls.specs.Lists.{name_told, value_told}
 use Rattle.list_calls.proofs.VariablesPassed.{variables_passed}
 use Rattle.word_runs.specs.Words.{with_word}
@@ -53,13 +57,13 @@ use Rattle.number_runs.specs.Numbers.{is_argument, is_element, is_fixed, is_give
 use Rattle.number_runs.specs.Numbers.{is_variable, may_calculate, number_needs, number_sets, numbers_need}
 use Rattle.number_runs.specs.Numbers.{numbers_set, reference_needs, reference_sets, test_needs, test_sets, type_known}
 use Rattle.number_runs.specs.Numbers.{is_narrow_with, is_wider, is_precision, is_text, text_needs, without_given}
-use Rattle.number_runs.specs.Numbers.{IsBare, without_located}
+use Rattle.number_runs.specs.Numbers.{IsBare, is_known, is_passed, is_received, without_located}
 use Rattle.number_runs.specs.Narrow.{is_number_type, is_text_type}
 use Rattle.number_runs.proofs.Arrays.{element_is, subscript_given}
 use Rattle.number_runs.proofs.Narrow.{flag_does, narrow_does, narrow_told, narrow_with_is, text_known, text_type_is}
 use Rattle.list_calls.proofs.ParametersPassed.{parameter_told, parameters_passed}
 use Rattle.number_runs.proofs.Received.{named_told, passable_told, stored_untold}
-use Rattle.number_runs.proofs.Variables.{Names, parameter_is, variable_is, ways_are, ways_many, ways_of, ways_stored}
+use Rattle.number_runs.proofs.Variables.{Names, Passable, parameter_is, variable_is, ways_are, ways_many, ways_of, ways_stored}
 use Rattle.number_runs.proofs.Turns.{telling_same}
 use Rattle.number_runs.proofs.Waiting.{numbers_wait, numbers_without, texts_without, texts_unlocated}
 use Rattle.number_runs.proofs.Based.{through_is}
@@ -227,24 +231,70 @@ no_lists :
     {s : Scope} {k : Setting} (h : KnowsNumbers s k) (n : ℕ) → IsBare s → HasLists h n
 no_lists {s} h n none may = absurd (cc (sym none.0 ∙ (and_parts s.gives s.counts may).0))
 
--- what may be an argument by reference may be passed
-abbrev pub names_in :
-    (s : Scope) → (k : Setting) → KnowsNumbers s k → (g : KnowsGiven s k) →
-    Names (without_located s) k g.layer g.others
-names_in s k h g r is =
-    let w = variable_is (without_located s) r is in
-    let p = g.passable w.spot w.known in
+-- a parameter stands for what is stored
+parameter_stored : (k : Block) (x : Spot) (is : IsParameter k x) → IsStored k.first is.serial is.signature
+parameter_stored k x is =
+    let less = none_above (k.first.state.serials + 1) k.first.state.living is.serial is.living
+    is.begun.resumes.stands.lives.falling is.lives in
     record {
-      variable = variable_of w.spot;
-      is = sym w.is;
+      old = omega (arith, less);
+      living = is.living;
+      lives = is.lives;
+      shape = is.shape;
+      numbered = is.numbered;
+      small = is.small;
+      number = is.number;
+      low = is.low;
+      inside = is.inside;
+    }
+
+variable_passable :
+    (s : Scope) (k : Setting) → KnowsNumbers s k → (g : KnowsGiven s k) (x : Spot) → is_known s x ≡ true →
+    Passable k g.layer g.others (whole x)
+variable_passable s k h g x known =
+    let p = g.passable x known in
+    record {
+      variable = variable_of x;
+      is = refl;
       serial = p.serial;
       signature = p.signature;
       stored = p.stored;
       passes = λ words waits.
-          variables_passed (setting_told k words waits g.layer g.others) w.spot (with_waits waits g.layer) g.others
+          variables_passed (setting_told k words waits g.layer g.others) x (with_waits waits g.layer) g.others
           p.serial p.signature (begun_telling k.block g.layer g.others waits g.newest h.begun) refl
-          (named_told k.block g.layer g.others waits g.newest w.spot p.serial p.signature p.named);
+          (named_told k.block g.layer g.others waits g.newest x p.serial p.signature p.named);
     }
+
+parameter_passable :
+    (s : Scope) (k : Setting) → KnowsNumbers s k → (g : KnowsGiven s k) (x : Spot) → is_received s x ≡ true →
+    Passable k g.layer g.others (parameter x)
+unfolding parameter_told
+parameter_passable s k h g x known =
+    let p = h.parameters x known in
+    record {
+      variable = parameter_of x;
+      is = refl;
+      serial = p.serial;
+      signature = p.signature;
+      stored = parameter_stored k.block x p;
+      passes = λ words waits.
+          parameters_passed (setting_told k words waits g.layer g.others) x (with_waits waits g.layer) g.others
+          (begun_telling k.block g.layer g.others waits g.newest h.begun) refl
+          (parameter_told k.block g.layer g.others waits g.newest x p);
+    }
+
+-- what may be an argument by reference may be passed
+pub names_in : (s : Scope) (k : Setting) → KnowsNumbers s k → (g : KnowsGiven s k) →
+    Names (without_located s) k g.layer g.others
+names_in s k h g r is = by (or_cases (is_variable s r) (is_given s r) is)
+  where
+    by : (is_variable s r ≡ true) ⊎ (is_given s r ≡ true) → Passable k g.layer g.others r
+    by (inl one) =
+        let w = variable_is s r one in
+        subst (λ q. Passable k g.layer g.others q) (sym w.is) (variable_passable s k h g w.spot w.known)
+    by (inr one) =
+        let w = parameter_is s r one in
+        subst (λ q. Passable k g.layer g.others q) (sym w.is) (parameter_passable s k h g w.spot w.known)
 
 -- a call, if its arguments do what they mean
 called_does :
@@ -432,7 +482,7 @@ mutual
       )
   arguments_give s k (Y.ArgumentThen (Y.ByReference r) rest) h g words all need waits told is few many room free =
       let u = without_located s in
-      let a = and_parts (is_variable u r) (are_arguments u rest) is in
+      let a = and_parts (is_passed u r) (are_arguments u rest) is in
       let us = ways_of u (names_in s k h g) rest a.1 in
       let n = names_in s k h g r a.0 in
       let last = words + argument_words * length us in (

@@ -354,7 +354,7 @@ mutual
   argument_taken s (Y.ByCopy type (Y.StoredBit x)) t h fits = absurd (cc h)
   argument_taken s (Y.ByCopy type (Y.StoredPointer x)) t h fits = absurd (cc h)
   argument_taken s (Y.ByCopy type (Y.StoredOffset x)) t h fits = absurd (cc h)
-  argument_taken s (Y.ByReference r) t h fits = scalar_takes s r t (inl h)
+  argument_taken s (Y.ByReference r) t h fits = scalar_takes s r t (or_cases (is_variable s r) (is_given s r) h)
   argument_taken s (Y.ByOffsetInParameter p parameter) t h fits = absurd (cc h)
   argument_taken s (Y.ByOffsetInAutomatic p) t h fits = absurd (cc h)
 

@@ -14,7 +14,7 @@ use Rattle.list_calls.specs.ListKnown.{AreStored, IsStored}
 use Rattle.number_runs.specs.Numbers.{Scope, are_arguments}
 use Rattle.number_runs.specs.Numbers.{has_none, is_absent, is_automatic, is_fixed, is_given, is_known}
 use Rattle.number_runs.specs.Numbers.{is_argument, is_number, is_one_word, is_parameter, is_parameter_class, is_plain}
-use Rattle.number_runs.specs.Numbers.{is_received, is_scalar, is_variable, is_word, spot_of}
+use Rattle.number_runs.specs.Numbers.{is_passed, is_received, is_scalar, is_variable, is_word, spot_of}
 use Rattle.number_runs.specs.Statements.{behind_stored, is_stored}
 
 -- ---- references
@@ -187,7 +187,7 @@ pub record Passable (k : Setting) (φ : Layer) (φs : List Layer) (r : Y.Referen
 
 -- each that may be an argument
 abbrev pub Names : Scope → Setting → Layer → List Layer → Type 0
-Names s k φ φs = (r : Y.Reference) → is_variable s r ≡ true → Passable k φ φs r
+Names s k φ φs = (r : Y.Reference) → is_passed s r ≡ true → Passable k φ φs r
 
 abbrev pub way_of :
     {k : Setting} → {φ : Layer} → {φs : List Layer} → (s : Scope) → Names s k φ φs → (x : Y.Argument) →

@@ -165,6 +165,10 @@ is_given s (Y.Referring v Y.NotLocated part Y.NoNumber) =
     is_parameter_class v.class && ((part.first == 0) && ((part.count == 1) && is_received s (spot_of v)))
 is_given s _ = false
 
+-- all of a variable or a parameter, which may be passed by reference
+abbrev pub is_passed : Scope → Y.Reference → Bool
+is_passed s r = is_variable s r || is_given s r
+
 -- ---- arrays
 
 -- one that is declared in one of these blocks, and its bounds
@@ -270,10 +274,10 @@ abbrev mutual
       is_element s v part && (is_number s subscript && is_wider s subscript)
   is_reference s r = is_variable s r || is_given s r
 
-  -- a number that is copied, or a variable that is passed by reference
+  -- a number that is copied, or what is passed by reference
   pub is_argument : Scope → Y.Argument → Bool
   is_argument s (Y.ByCopy type (Y.StoredNumber precision x)) = is_fixed type && ((precision == 31) && is_number s x)
-  is_argument s (Y.ByReference r) = is_variable s r
+  is_argument s (Y.ByReference r) = is_passed s r
   is_argument s _ = false
 
   pub are_arguments : Scope → Y.Arguments → Bool
