@@ -1,6 +1,6 @@
 -- Variables of a block of the class: what they count for in AUTOMATIC storage, and that those which pass the limit on
 -- that end the run.
-use Rattle.std.proofs.Common.{◌≡◌, ℕ, ◌+◌, ◌%◌, ◌^◌, ◌<◌, ◌≤◌, List, [], ◌∷◌, Bool, true, false}
+use Rattle.std.proofs.Common.{◌≡◌, inl, ℕ, ◌+◌, ◌%◌, ◌^◌, ◌<◌, ◌≤◌, List, [], ◌∷◌, Bool, true, false}
 use Rattle.std.proofs.Common.{refl, sym, ap, ◌∙◌, subst, arith}
 use Rattle.std.specs.Prelude.{cond, nat_le, nat_lt, pos, if◌then◌else◌}
 use Rattle.std.proofs.lemmas.Bool.{and_parts, leb-true}
@@ -35,10 +35,10 @@ use Rattle.run_steps.specs.Reach.{Family, Reach, cost, reached}
 use Rattle.run_steps.proofs.Reach.{reached_holds}
 use Rattle.block_runs.specs.Machines.{AreIn, IsImage, IsIn}
 use Rattle.program_runs.specs.Initial.{Begins, MayBeMade}
-use Rattle.program_runs.specs.Variables.{Declared, generation_for, made_of}
-use Rattle.program_runs.proofs.Variables.{made_becomes, started_comes, started_means}
-use Rattle.variable_runs.specs.Lists.{all_made, behind_made, layer_after, layer_behind, made_code, told_by}
-use Rattle.variable_runs.proofs.Lists.{next_layers}
+use Rattle.program_runs.specs.Variables.{Declared, generation_for}
+use Rattle.program_runs.proofs.Variables.{started_means}
+use Rattle.variable_runs.specs.Lists.{all_made, behind_made, layer_after, layer_behind, made_code}
+use Rattle.variable_runs.proofs.Lists.{next_comes, next_layers, next_stands}
 use Rattle.nested_calls.specs.FullVariables.{Over, PassesLimit}
 use Rattle.nested_calls.proofs.FullVariables.{over_then, variable_ends}
 use Rattle.number_runs.specs.Variables.{AreTabled, EachBegins, HaveRoom, IsTabled, are_plain, bytes_of, is_declared}
@@ -267,14 +267,6 @@ first_over w code e around p numbers φ φs place index d ds has is past =
           (omega (arith, paid, n), has.acts) (front_of first rest l) there;
     }
 
--- nothing is told of the name of what is no area
-values_now :
-    (w : Surroundings) (code : List Instr) (p : Point) (x : Declared) (φ : Layer) (φs : List Layer) →
-    MayBeMade w code p x φ φs → with_made (made_of w.parts φ x) p ≡ behind_made w.parts φ x p
-values_now w code p x φ φs is =
-    sym (ap (λ o. with_made (record (made_of w.parts φ x) { told = told_by o x.place (p.state.serials + 1) φ.told }) p)
-    is.fixed)
-
 -- it is made, and one behind it passes the limit
 later_over :
     (w : Surroundings) (code : List Instr) (e : Environment) (around : Around) (p : Point) (numbers : ℕ → ℕ)
@@ -289,23 +281,19 @@ later_over w code e around p numbers φ φs place index d ds has plain is next =
     let first = constant_made e place d in
     let rest = made_code e (words_from e (place + variable_bytes d) (index + 1) ds) in
     let n = size_append first rest in
-    let now' = values_now w code p x φ φs is in
     record {
       state = next.state;
       means =
           first_means around index w.acts d ds p.state plain
           ∙ ap (λ flow. flow_on w.acts flow (λ u. K.variables_made around (index + 1) ds))
           (started_means w code p x φ φs w.acts is)
-          ∙ ap (λ (r : Point). K.variables_made around (index + 1) ds w.acts r.state) now'
           ∙ next.means;
       over = λ c i f known paid l there.
-          let r = subst (λ r'. Reach code c f (services_of p) (c + size_of first) (services_of r')
-          (λ b y. IsIn w r' numbers (i + size_of first) b y)) now'
-          (started_comes w code e p numbers x φ φs c i f known is (refl, has.parts) (front_of first rest l) there) in
+          let r = next_comes w code e p numbers x φ φs c i f known (inl is) (refl, has.parts)
+              (front_of first rest l) there in
           over_then r
           (next.over (c + size_of first) (i + size_of first) (reached r)
-          (subst (λ r'. Stands w r' × IsImage w code r') now'
-          (made_becomes (record { stands = known.0; image = known.1; is = is })).stands) (omega (arith, paid, n))
+          (next_stands w code p x φ φs known (inl is)) (omega (arith, paid, n))
           (back_of first rest l) (reached_holds r));
     }
 

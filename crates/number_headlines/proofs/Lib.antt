@@ -4,6 +4,7 @@ pub mod Puts
 pub mod Loops
 pub mod Mains
 pub mod Places
+pub mod Telling
 pub mod Running
 pub mod Pointers
 pub mod Based

@@ -22,8 +22,8 @@ use Rattle.program_runs.specs.Statements.{IsBegun}
 use Rattle.expression_runs.specs.Variables.{IsNumber, Spot, number_declared, variable_of}
 use Rattle.element_runs.specs.Arrays.{IsArray}
 use Rattle.scalar_runs.specs.Scalars.{IsScalar}
-use Rattle.variable_runs.specs.Known.{IsKnown, place_of}
-use Rattle.variable_runs.specs.Lists.{AreAllBegun, AreThose, all_made, layer_after}
+use Rattle.variable_runs.specs.Known.{IsKnown, IsOwn, place_of}
+use Rattle.variable_runs.specs.Lists.{Among, AreAllBegun, AreThose, all_made, layer_after}
 use Rattle.variable_runs.proofs.Known.{known_begun, known_number}
 use Rattle.variable_runs.proofs.Lists.{layers_after}
 use Rattle.area_runs.specs.Allocations.{HasArea, IsTold}
@@ -80,7 +80,44 @@ all_held w code c p numbers h =
           p.control.layers first (held_bytes parts ds)) h.parts h.room);
     }
 
--- each of them is known in the block
+-- each of them stands where code looks for it
+pub held_place :
+    (w : Surroundings) (code : List Instr) (c : Callee) (p : Point) (numbers : ℕ → ℕ) (x : Spot)
+    (d : Y.DeclaredVariable) → HasAreas w code c p numbers → (x.block ≡ c.environment.block) × (x.level ≡ c.environment.level) →
+    is_based d ≡ false → declared_variable c.environment.program (variable_of x) ≡ Some d →
+    IsOwn c
+    (word_made c.environment
+    (fixed_size c.environment.level 0
+    + held_before c.environment.parts (variables_of_block c.environment.program c.environment.block) x.index)
+    (0 + x.index) d) x
+    × Among
+    (word_made c.environment
+    (fixed_size c.environment.level 0
+    + held_before c.environment.parts (variables_of_block c.environment.program c.environment.block) x.index)
+    (0 + x.index) d) (held_in c.environment)
+held_place w code c p numbers x d h own none is =
+    let e = c.environment in
+    let ds = variables_of_block e.program e.block in
+    let first = fixed_size e.level 0 in
+    let there = ap (λ n. slice_get (variables_of_block e.program n) x.index) (sym own.0) ∙ is in
+    let less = slice_less ds x.index d there in
+    let at = held_places e.parts first ds h.room.counted in
+    let start : fixed_size e.level (length (parameters_of_block e.program e.block)) ≡ first =
+    ap (λ (ns : List ℕ). fixed_size e.level (length ns)) h.bare in (
+      record {
+        declared = is;
+        index = omega arith;
+        level = own.1 ∙ h.level;
+        own = h.level;
+        place =
+            ap (λ n. automatic_place e.parts e.program n x.level x.index) own.0
+            ∙ ap (λ n. automatic_place e.parts e.program e.block n x.index) own.1
+            ∙ ap (λ n. variable_place e.parts n ds x.index) start ∙ at x.index less;
+      },
+      held_among e first 0 x.index ds d there none,
+    )
+
+-- and is known in the block
 pub held_known :
     (w : Surroundings) (code : List Instr) (c : Callee) (p : Point) (numbers : ℕ → ℕ) (x : Spot)
     (d : Y.DeclaredVariable) → HasParts w.parts → HasAreas w code c p numbers →
@@ -90,25 +127,10 @@ pub held_known :
 held_known w code c p numbers x d parts h own none is b =
     let e = c.environment in
     let ds = variables_of_block e.program e.block in
-    let first = fixed_size e.level 0 in
-    let there = ap (λ n. slice_get (variables_of_block e.program n) x.index) (sym own.0) ∙ is in
-    let less = slice_less ds x.index d there in
-    let at = held_places e.parts first ds h.room.counted in
-    let start : fixed_size e.level (length (parameters_of_block e.program e.block)) ≡ first =
-    ap (λ (ns : List ℕ). fixed_size e.level (length ns)) h.bare in
-    known_begun w code c p numbers (held_in e) (word_made e (first + held_before e.parts ds x.index) (0 + x.index) d) x
-    parts (all_held w code c p numbers h) (held_among e first 0 x.index ds d there none)
-    (record {
-      declared = is;
-      index = omega arith;
-      level = own.1 ∙ h.level;
-      own = h.level;
-      place =
-          ap (λ n. automatic_place e.parts e.program n x.level x.index) own.0
-          ∙ ap (λ n. automatic_place e.parts e.program e.block n x.index) own.1
-          ∙ ap (λ n. variable_place e.parts n ds x.index) start ∙ at x.index less;
-    })
-    b
+    let o = held_place w code c p numbers x d h own none is in
+    known_begun w code c p numbers (held_in e)
+    (word_made e (fixed_size e.level 0 + held_before e.parts ds x.index) (0 + x.index) d) x parts
+    (all_held w code c p numbers h) o.1 o.0 b
 
 -- ---- as what they are
 

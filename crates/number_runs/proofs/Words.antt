@@ -26,7 +26,7 @@ use Rattle.program_runs.specs.Statements.{Block, IsAmong, IsBegun}
 use Rattle.program_runs.specs.Initial.{Begins, MayBeMade}
 use Rattle.program_runs.specs.Variables.{Declared, generation_for}
 use Rattle.expression_runs.specs.Variables.{IsNumber, Spot, number_declared, variable_of}
-use Rattle.variable_runs.specs.Known.{IsKnown}
+use Rattle.variable_runs.specs.Known.{IsKnown, IsOwn}
 use Rattle.variable_runs.specs.Lists.{AllMayBegin, Among, AreAllBegun, AreListed, AreThose, HaveWords, all_made}
 use Rattle.variable_runs.specs.Lists.{behind_made, layer_after, layer_behind, made_code}
 use Rattle.variable_runs.proofs.ListsAmong.{begun_among}
@@ -407,6 +407,41 @@ words_anywhere k c p numbers b o h =
     (variables_of_block c.environment.program c.environment.block) h.plain)
     (all_words k.call.surroundings k.call.code c k.first numbers h)
 
+-- each of them stands where code looks for it
+pub own_place :
+    (w : Surroundings) (code : List Instr) (c : Callee) (q : Point) (numbers : ℕ → ℕ) (x : Spot)
+    (d : Y.DeclaredVariable) → HasWords w code c q numbers → (x.block ≡ c.environment.block) × (x.level ≡ c.environment.level) →
+    declared_variable c.environment.program (variable_of x) ≡ Some d →
+    IsOwn c
+    (word_made c.environment
+    (fixed_size c.environment.level 0 + bytes_before (variables_of_block c.environment.program c.environment.block)
+    x.index) (0 + x.index) d) x
+    × Among
+    (word_made c.environment
+    (fixed_size c.environment.level 0 + bytes_before (variables_of_block c.environment.program c.environment.block)
+    x.index) (0 + x.index) d) (words_in c.environment)
+own_place w code c q numbers x d h own is =
+    let e = c.environment in
+    let ds = variables_of_block e.program e.block in
+    let first = fixed_size e.level 0 in
+    let there = ap (λ n. slice_get (variables_of_block e.program n) x.index) (sym own.0) ∙ is in
+    let less = slice_less ds x.index d there in
+    let at = places_are e.parts first ds h.plain h.room.counted in
+    let start : fixed_size e.level (length (parameters_of_block e.program e.block)) ≡ first =
+    ap (λ (ns : List ℕ). fixed_size e.level (length ns)) h.bare in (
+      record {
+        declared = is;
+        index = omega arith;
+        level = own.1 ∙ h.level;
+        own = h.level;
+        place =
+            ap (λ n. automatic_place e.parts e.program n x.level x.index) own.0
+            ∙ ap (λ n. automatic_place e.parts e.program e.block n x.index) own.1
+            ∙ ap (λ n. variable_place e.parts n ds x.index) start ∙ at x.index less;
+      },
+      words_among e first 0 x.index ds d there,
+    )
+
 -- each of them is known in the block
 own_known :
     (w : Surroundings) (code : List Instr) (c : Callee) (p q : Point) (numbers : ℕ → ℕ) (x : Spot)
@@ -416,28 +451,11 @@ own_known :
     declared_variable c.environment.program (variable_of x) ≡ Some d → IsBegun (block_at w code c p numbers) →
     IsKnown (block_at w code c p numbers) x d
 own_known w code c p q numbers x d parts known own is b =
-    let h = known.0 in
     let e = c.environment in
     let ds = variables_of_block e.program e.block in
-    let first = fixed_size e.level 0 in
-    let there = ap (λ n. slice_get (variables_of_block e.program n) x.index) (sym own.0) ∙ is in
-    let less = slice_less ds x.index d there in
-    let at = places_are e.parts first ds h.plain h.room.counted in
-    let start : fixed_size e.level (length (parameters_of_block e.program e.block)) ≡ first =
-    ap (λ (ns : List ℕ). fixed_size e.level (length ns)) h.bare in
-    known_begun w code c p numbers (words_in e) (word_made e (first + bytes_before ds x.index) (0 + x.index) d) x parts
-    known.1 (words_among e first 0 x.index ds d there)
-    (record {
-      declared = is;
-      index = omega arith;
-      level = own.1 ∙ h.level;
-      own = h.level;
-      place =
-          ap (λ n. automatic_place e.parts e.program n x.level x.index) own.0
-          ∙ ap (λ n. automatic_place e.parts e.program e.block n x.index) own.1
-          ∙ ap (λ n. variable_place e.parts n ds x.index) start ∙ at x.index less;
-    })
-    b
+    let o = own_place w code c q numbers x d known.0 own is in
+    known_begun w code c p numbers (words_in e)
+    (word_made e (fixed_size e.level 0 + bytes_before ds x.index) (0 + x.index) d) x parts known.1 o.1 o.0 b
 
 -- a function's block has the frame that a procedure's would have
 function_known :

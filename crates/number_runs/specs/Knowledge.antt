@@ -43,7 +43,8 @@ use Rattle.element_runs.specs.Arrays.{IsArray}
 use Rattle.element_runs.specs.Subscripts.{SubscriptComes}
 use Rattle.argument_runs.specs.Parameters.{IsParameter}
 use Rattle.list_calls.specs.Arguments.{EachGives, Way, arguments_of, setting_told}
-use Rattle.list_calls.specs.ListKnown.{AreStored}
+use Rattle.list_calls.specs.ListKnown.{AreStored, IsStored}
+use Rattle.list_calls.specs.Passed.{IsNamed}
 use Rattle.area_runs.specs.Allocations.{allocation}
 use Rattle.area_runs.specs.Based.{through}
 use Rattle.area_runs.specs.BasedAssignments as B
@@ -83,6 +84,13 @@ GiveBehind k words need waits φ φs ways =
     (words + argument_words * length ways) waits
     ways
 
+-- a variable of a block may be passed by reference: its frame tells its name, and it is stored
+pub record IsPassable (k : Block) (x : Spot) : Type 0 where
+  pub serial : ℕ
+  pub signature : ℕ
+  pub named : IsNamed k x serial signature
+  pub stored : IsStored k.first serial signature
+
 -- an ERROR by a service's status comes to what it means
 pub record KnowsErrors (k : Setting) : Type 0 where
   pub text : ErrorComes (List ℕ) k
@@ -109,13 +117,15 @@ pub record KnowsTexts (s : Scope) (k : Setting) : Type 0 where
   pub waits : (entries : List Entry) → KnowsWaiting s (over entries k)
 
 -- around lists of arguments, which stand in words of the newest layer behind those that are set aside: raises and calls
--- do what they mean whatever waits in these words, and so does a call with a list if each of its arguments does
+-- do what they mean whatever waits in these words, and so does a call with a list if each of its arguments does; each
+-- variable may be passed by reference
 pub record KnowsGiven (s : Scope) (k : Setting) : Type 0 where
   pub layer : Layer
   pub others : List Layer
   pub newest : k.block.first.control.layers ≡ layer ∷ others
   pub few : layer.words ≤ most_set
   pub free : IsFree layer.waits k.words
+  pub passable : (x : Spot) → is_known s x ≡ true → IsPassable k.block x
   pub overflow :
       s.overflows ≡ true → (words : ℕ) → words ≤ most_set → (waits : ℕ → Option ℕ) →
       OverflowComes (setting_told k words waits layer others)
@@ -269,10 +279,11 @@ pub record KnowsCalls (s : Scope) (k : Block) (own : List Label) (most left' : �
       DoesWith words k labels (call_statement level n line) index left'
 
 -- so do those with a list of arguments, whatever waits in the words of the newest layer that are set aside, if each of
--- its arguments does
+-- its arguments does; each variable may be passed by reference
 pub record KnowsGivenCalls (s : Scope) (k : Block) (layer : Layer) (others : List Layer) (own : List Label)
     (most left' : ℕ) : Type 0
   where
+    pub passable : (x : Spot) → is_known s x ≡ true → IsPassable k x
     pub functions :
         (words : ℕ) (waits : ℕ → Option ℕ) (labels : List Label) (line level n need : ℕ) (ways : List Way) →
         0 < length ways → AreStored k.first ways → Includes own labels → IsFree waits words →

@@ -31,8 +31,7 @@ pub record Scope : Type 0 where
   pub receivers : List BlockPlace
   pub is_function : (level number : ℕ) → Bool
   pub is_procedure : (level number : ℕ) → Bool
-  -- whether calls may have arguments, each of which is copied, and the functions and the procedures with so many
-  -- parameters
+  -- whether calls may have arguments, and the functions and the procedures with so many parameters
   pub gives : Bool
   pub is_given_function : (count level number : ℕ) → Bool
   pub is_given_procedure : (count level number : ℕ) → Bool
@@ -178,6 +177,10 @@ is_given s (Y.Referring v Y.NotLocated part Y.NoNumber) =
     is_parameter_class v.class && ((part.first == 0) && ((part.count == 1) && is_received s (spot_of v)))
 is_given s _ = false
 
+-- all of a variable or a parameter, which may be passed by reference
+abbrev pub is_passed : Scope → Y.Reference → Bool
+is_passed s r = is_variable s r || is_given s r
+
 -- ---- arrays
 
 -- one that is declared in one of these blocks, and its bounds
@@ -284,9 +287,10 @@ abbrev mutual
       is_element s v part && (is_number s subscript && is_wider s subscript)
   is_reference s r = is_variable s r || is_given s r
 
-  -- a number that is copied
+  -- a number that is copied, or what is passed by reference
   pub is_argument : Scope → Y.Argument → Bool
   is_argument s (Y.ByCopy type (Y.StoredNumber precision x)) = is_fixed type && ((precision == 31) && is_number s x)
+  is_argument s (Y.ByReference r) = is_passed s r
   is_argument s _ = false
 
   pub are_arguments : Scope → Y.Arguments → Bool
@@ -344,13 +348,14 @@ abbrev mutual
   pub call_needs : Y.Call → ℕ
   call_needs (Y.Calling number level arguments) = arguments_need arguments
 
-  -- one at a time; a value waits on its way into the list
+  -- one at a time
   pub arguments_need : Y.Arguments → ℕ
   arguments_need Y.NoArgument = 0
-  arguments_need (Y.ArgumentThen first rest) = max (max (argument_needs first) 1) (arguments_need rest)
+  arguments_need (Y.ArgumentThen first rest) = max (argument_needs first) (arguments_need rest)
 
+  -- a value waits on its way into the list
   pub argument_needs : Y.Argument → ℕ
-  argument_needs (Y.ByCopy type (Y.StoredNumber precision x)) = number_needs x
+  argument_needs (Y.ByCopy type (Y.StoredNumber precision x)) = max (number_needs x) 1
   argument_needs _ = 0
 
   -- all of them wait

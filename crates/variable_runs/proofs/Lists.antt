@@ -1,7 +1,8 @@
 -- Variables that are made one behind the other: a procedure makes all that it declares.
-use Rattle.std.proofs.Common.{◌≡◌, ℕ, ◌+◌, ◌<◌, ◌≤◌, inl, inr, List, [], ◌∷◌, length, Some, false, refl, sym, ap, ◌∙◌}
-use Rattle.std.proofs.Common.{subst, arith}
-use Rattle.std.specs.Prelude.{pos}
+use Rattle.std.proofs.Common.{◌≡◌, ℕ, ◌+◌, ◌^◌, ◌<◌, ◌≤◌, inl, inr, List, [], ◌∷◌, length, Some, false, refl}
+use Rattle.std.proofs.Common.{sym, ap, ◌∙◌, subst, arith}
+use Rattle.std.specs.Prelude.{Bool, nat_lt, pos, true}
+use Rattle.std.proofs.lemmas.Bool.{lt-ltb, ltb-true}
 use Rattle.rv_meaning.specs.declared.instr.Instr.{Instr}
 use Rattle.pli_typing.specs.TypedTree as Y
 use Rattle.pli_meaning.specs.BasicValues.{VariableName}
@@ -36,43 +37,50 @@ use Rattle.run_steps.proofs.Reach.{reach_then, reached_holds, stay}
 use Rattle.block_runs.specs.Machines.{AreIn, IsImage, IsIn}
 use Rattle.program_runs.specs.Calls.{AreMade, Callee, act_index, begun_at, variables_index}
 use Rattle.program_runs.specs.Procedures.{beginning_for, layer_for}
-use Rattle.program_runs.specs.Names.{named_of}
 use Rattle.program_runs.specs.Initial.{MayBeMade}
 use Rattle.program_runs.specs.Variables.{Declared, generation_for, made_of}
+use Rattle.program_runs.proofs.Names.{begun_comes, begun_stands}
 use Rattle.program_runs.proofs.Variables.{made_becomes, started_comes, started_means, without_initial}
 use Rattle.variable_runs.specs.Areas.{IsArea}
 use Rattle.variable_runs.specs.Lists.{AllMayBegin, AreAll, AreAllBegun, AreDeclared, AreListed, AreThose, Declares}
 use Rattle.variable_runs.specs.Lists.{MayBegin, all_made, behind_made}
-use Rattle.variable_runs.specs.Lists.{layer_after, layer_behind, made_code, made_now, told_by}
+use Rattle.variable_runs.specs.Lists.{layer_after, layer_behind, made_code, made_now, told_if}
 use Rattle.variable_runs.proofs.AreaMemory as A
 use Rattle.variable_runs.proofs.AreaVariables.{area_comes, area_means}
 
 -- ---- one of them
 
--- what is told then of a variable of values, and of an area
-values_now :
-    (w : Surroundings) (code : List Instr) (p : Point) (x : Declared) (φ : Layer) (φs : List Layer) →
-    MayBeMade w code p x φ φs → with_made (made_of w.parts φ x) p ≡ behind_made w.parts φ x p
-values_now w code p x φ φs is =
-    sym (ap (λ o. with_made (record (made_of w.parts φ x) { told = told_by o x.place (p.state.serials + 1) φ.told }) p)
-    is.fixed)
+-- what is told then, by whether its serial number has two words
+pub now_is :
+    (w : Surroundings) (p : Point) (x : Declared) (φ : Layer) (q : Bool) → nat_lt (p.state.serials + 1) (2 ^ 64) ≡ q →
+    with_made (record (made_of w.parts φ x) { told = told_if q x.place (p.state.serials + 1) φ.told }) p
+    ≡ behind_made w.parts φ x p
+now_is w p x φ q e =
+    ap (λ t. with_made (record (made_of w.parts φ x) { told = told_if t x.place (p.state.serials + 1) φ.told }) p)
+    (sym e)
 
-area_now :
-    (w : Surroundings) (p : Point) (x : Declared) (φ : Layer) (φs : List Layer) → IsArea w p x φ φs →
-    with_made (named_of w.parts (p.state.serials + 1) φ x) p ≡ behind_made w.parts φ x p
-area_now w p x φ φs is =
-    sym (ap (λ o. with_made (record (made_of w.parts φ x) { told = told_by o x.place (p.state.serials + 1) φ.told }) p)
-    is.fixed)
+-- that of an area has
+area_few :
+    {w : Surroundings} {p : Point} {x : Declared} {φ : Layer} {φs : List Layer} → IsArea w p x φ φs →
+    nat_lt (p.state.serials + 1) (2 ^ 64) ≡ true
+area_few is = lt-ltb _ (2 ^ 64) is.serial
 
 pub next_stands :
     (w : Surroundings) (code : List Instr) (p : Point) (x : Declared) (φ : Layer) (φs : List Layer) →
     Stands w p × IsImage w code p → MayBegin w code p x φ φs →
     Stands w (behind_made w.parts φ x p) × IsImage w code (behind_made w.parts φ x p)
-next_stands w code p x φ φs known (inl is) =
-    subst (λ q. Stands w q × IsImage w code q) (values_now w code p x φ φs is)
-    (made_becomes (record { stands = known.0; image = known.1; is = is })).stands
+next_stands w code p x φ φs known (inl is) = by (nat_lt (p.state.serials + 1) (2 ^ 64)) refl
+  where
+    by :
+        (q : Bool) → nat_lt (p.state.serials + 1) (2 ^ 64) ≡ q →
+        Stands w (behind_made w.parts φ x p) × IsImage w code (behind_made w.parts φ x p)
+    by true e =
+        subst (λ q. Stands w q × IsImage w code q) (now_is w p x φ true e) (begun_stands w code p x φ φs known is)
+    by false e =
+        subst (λ q. Stands w q × IsImage w code q) (now_is w p x φ false e)
+        (made_becomes (record { stands = known.0; image = known.1; is = is })).stands
 next_stands w code p x φ φs known (inr is) =
-    subst (λ q. Stands w q × IsImage w code q) (area_now w p x φ φs is)
+    subst (λ q. Stands w q × IsImage w code q) (now_is w p x φ true (area_few is))
     (A.made_stands (record { stands = known.0; image = known.1; is = is }))
 
 pub next_comes :
@@ -84,12 +92,25 @@ pub next_comes :
     (services_of (behind_made w.parts φ x p))
     (λ b y. IsIn w (behind_made w.parts φ x p) numbers (index + size_of (constant_made e x.place x.declared)) b y)
 next_comes w code e p numbers x φ φs c index f known (inl is) same l there =
-    subst (λ q. Reach code c f (services_of p) (c + size_of (constant_made e x.place x.declared)) (services_of q)
-    (λ b y. IsIn w q numbers (index + size_of (constant_made e x.place x.declared)) b y))
-    (values_now w code p x φ φs is) (started_comes w code e p numbers x φ φs c index f known is same l there)
+    by (nat_lt (p.state.serials + 1) (2 ^ 64)) refl
+  where
+    by :
+        (q : Bool) → nat_lt (p.state.serials + 1) (2 ^ 64) ≡ q →
+        Reach code c f (services_of p) (c + size_of (constant_made e x.place x.declared))
+        (services_of (behind_made w.parts φ x p))
+        (λ b y. IsIn w (behind_made w.parts φ x p) numbers (index + size_of (constant_made e x.place x.declared)) b y)
+    by true e' =
+        subst (λ q. Reach code c f (services_of p) (c + size_of (constant_made e x.place x.declared)) (services_of q)
+        (λ b y. IsIn w q numbers (index + size_of (constant_made e x.place x.declared)) b y)) (now_is w p x φ true e')
+        (begun_comes w code e p numbers x φ φs c index f known is (ltb-true _ (2 ^ 64) e') same l there)
+    by false e' =
+        subst (λ q. Reach code c f (services_of p) (c + size_of (constant_made e x.place x.declared)) (services_of q)
+        (λ b y. IsIn w q numbers (index + size_of (constant_made e x.place x.declared)) b y)) (now_is w p x φ false e')
+        (started_comes w code e p numbers x φ φs c index f known is same l there)
 next_comes w code e p numbers x φ φs c index f known (inr is) same l there =
     subst (λ q. Reach code c f (services_of p) (c + size_of (constant_made e x.place x.declared)) (services_of q)
-    (λ b y. IsIn w q numbers (index + size_of (constant_made e x.place x.declared)) b y)) (area_now w p x φ φs is)
+    (λ b y. IsIn w q numbers (index + size_of (constant_made e x.place x.declared)) b y))
+    (now_is w p x φ true (area_few is))
     (area_comes w code e p numbers x φ φs c index f known is same l there)
 
 pub next_means :

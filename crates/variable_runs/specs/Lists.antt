@@ -1,7 +1,7 @@
--- Several variables of constant size, with INITIAL values and without, areas among them, made one behind the other in the
--- newest block.
+-- Several variables of constant size, with INITIAL values and without, areas among them, made one behind the other in
+-- the newest block.
 use Rattle.std.specs.Prelude.{ℕ, ◌+◌, ◌^◌, ◌<◌, ◌≤◌, ◌≡◌, ◌⊎◌, ◌++◌, List, [], ◌∷◌, length, Option, None, Some, is_some}
-use Rattle.std.specs.Prelude.{false, true, ⊤}
+use Rattle.std.specs.Prelude.{Bool, false, nat_lt, true, ⊤}
 use Rattle.rv_meaning.specs.declared.instr.Instr.{Instr}
 use Rattle.pli_typing.specs.TypedTree as Y
 use Rattle.pli_meaning.specs.DeclaredShapes.{shape_of, variables_of_block}
@@ -24,14 +24,14 @@ use Rattle.variable_runs.specs.Areas.{IsArea}
 
 -- ---- where they are made
 
--- what is told of the words of an area's name from then on, which services read
-abbrev pub told_by : Option ℕ → (place serial : ℕ) → (ℕ → Option ℕ) → ℕ → Option ℕ
-told_by (Some capacity) place serial told = name_told place serial told
-told_by None place serial told = told
+-- what is told of the words of its name from then on, which services read, if its serial number has two words
+abbrev pub told_if : Bool → (place serial : ℕ) → (ℕ → Option ℕ) → ℕ → Option ℕ
+told_if true place serial told = name_told place serial told
+told_if false place serial told = told
 
 abbrev pub made_now : MemoryParts → (serial : ℕ) → Layer → Declared → Made
 made_now parts serial φ x =
-    record (made_of parts φ x) { told = told_by (capacity_of (shape_of [] x.declared)) x.place serial φ.told }
+    record (made_of parts φ x) { told = told_if (nat_lt serial (2 ^ 64)) x.place serial φ.told }
 
 -- the newest block's layer behind one, and behind them all
 abbrev pub layer_behind : MemoryParts → (serial : ℕ) → Layer → Declared → Layer
