@@ -61,7 +61,8 @@ use Rattle.word_runs.proofs.Words.{begun_telling}
 use Rattle.list_calls.specs.Arguments.{Passes, name_code}
 use Rattle.list_calls.specs.Lists.{Told, name_told}
 use Rattle.list_calls.proofs.ListGiving.{told_again, told_itself}
-use Rattle.list_calls.proofs.NamePassing.{Finds, HasNameAt, Signs, answered_regs, name_passed, number_regs, passing_code}
+use Rattle.list_calls.proofs.NamePassing.{Finds, HasNameAt, Signs, answered_regs, name_passed, number_regs}
+use Rattle.list_calls.proofs.NamePassing.{passing_code}
 
 -- ---- a parameter of a block is one while words of its frame tell something
 
@@ -381,7 +382,8 @@ parameters_passed k x φ φs begun newest is =
           let code = k.block.call.code in
           let o' = told_again k told newest o in
           let here = o.later.layers in
-          let eq = coded k.block.environment taken all place count n x is.place is.declared is.numbered_so is.near is.own in
+          let eq = coded k.block.environment taken all place count n x is.place is.declared is.numbered_so is.near is.own
+          in
           let whole = passing_code (name_loaded is.place) (signed_loaded a1 x.level is.place)
           (signed_loaded u1 x.level is.place) place count n in
           let l' = subst (Linked w.links code index) eq l in

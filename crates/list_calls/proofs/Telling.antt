@@ -1,5 +1,6 @@
 -- Numbers whose names the frames of their blocks tell, from where they are made.
-use Rattle.std.proofs.Common.{◌≡◌, ◌⊎◌, inl, inr, ℕ, ◌+◌, ◌/◌, ◌^◌, ◌<◌, ◌≤◌, List, [], ◌∷◌, length, Option, None, Some}
+use Rattle.std.proofs.Common.{◌≡◌, ◌⊎◌, inl, inr, ℕ, ◌+◌, ◌/◌, ◌^◌, ◌<◌, ◌≤◌, List, [], ◌∷◌, length, Option, None}
+use Rattle.std.proofs.Common.{Some}
 use Rattle.std.proofs.Common.{true, false, refl, sym, ap, ◌∙◌, subst, arith}
 use Rattle.std.specs.Prelude.{◌%◌, ◌==◌, Bool, cond, nat_lt}
 use Rattle.std.proofs.lemmas.Bool.{eq-eqb, lt-ltb}
@@ -25,7 +26,8 @@ use Rattle.program_runs.specs.Statements.{Block, IsAmong, IsBegun}
 use Rattle.program_runs.specs.Variables.{Declared, generation_for}
 use Rattle.expression_runs.specs.Variables.{IsFrameOf, IsNumber, Spot, number_declared}
 use Rattle.variable_runs.specs.Known.{IsOwn, place_of}
-use Rattle.variable_runs.specs.Lists.{AllMayBegin, Among, AreAllBegun, AreListed, MayBegin, all_made, behind_made, first_all}
+use Rattle.variable_runs.specs.Lists.{AllMayBegin, Among, AreAllBegun, AreListed, MayBegin, all_made, behind_made}
+use Rattle.variable_runs.specs.Lists.{first_all}
 use Rattle.variable_runs.specs.Lists.{layer_after, layer_behind, newest_all, told_if}
 use Rattle.variable_runs.proofs.Lists.{Binds, layers_after}
 use Rattle.function_runs.specs.Functions.{function_block}
@@ -147,14 +149,15 @@ record Room (w : Surroundings) (φ : Layer) (d : Declared) : Type 0 where
   above : (serial : ℕ) → φ.at + d.place + 16 ≤ (layer_behind w.parts serial φ d).top
 
 room_for :
-    {w : Surroundings} {code : List Instr} {p : Point} {d : Declared} {φ : Layer} {φs : List Layer} → MayBegin w code p d φ φs → Room w φ d
+    {w : Surroundings} {code : List Instr} {p : Point} {d : Declared} {φ : Layer} {φs : List Layer} →
+    MayBegin w code p d φ φs → Room w φ d
 room_for (inl h) = let holds = h.holds in record { here = h.here; above = λ serial. omega (arith, holds) }
 room_for (inr h) = let size = h.size in record { here = h.here; above = λ serial. omega (arith, size) }
 
 -- where it has just been made
 tells_new :
-    (w : Surroundings) (code : List Instr) (p : Point) (φ : Layer) (φs : List Layer) (a : Activation) (as' : List Activation)
-    (d : Declared) → MayBegin w code p d φ φs → Binds p a as' →
+    (w : Surroundings) (code : List Instr) (p : Point) (φ : Layer) (φs : List Layer) (a : Activation)
+    (as' : List Activation) (d : Declared) → MayBegin w code p d φ φs → Binds p a as' →
     Tells (behind_made w.parts φ d p) (layer_behind w.parts (p.state.serials + 1) φ d) a as' d
 tells_new w code p φ φs a as' d is binds =
     let serial = p.state.serials + 1 in
@@ -171,8 +174,8 @@ tells_new w code p φ φs a as' d is binds =
 
 -- it is told still where another has been made
 tells_still :
-    (w : Surroundings) (code : List Instr) (p : Point) (φ : Layer) (φs : List Layer) (a : Activation) (as' : List Activation)
-    (d y : Declared) → d.index < y.index → MayBegin w code p y φ φs → Tells p φ a as' d →
+    (w : Surroundings) (code : List Instr) (p : Point) (φ : Layer) (φs : List Layer) (a : Activation)
+    (as' : List Activation) (d y : Declared) → d.index < y.index → MayBegin w code p y φ φs → Tells p φ a as' d →
     Tells (behind_made w.parts φ y p) (layer_behind w.parts (p.state.serials + 1) φ y) a as' d
 tells_still w code p φ φs a as' d y less is h =
     let serial = p.state.serials + 1 in
@@ -256,8 +259,8 @@ told_own :
     is.serial < 2 ^ 64 → IsTelling k x
 unfolding serial_in serial_of
 told_own k x is q φ φs a as' d t active layers own place few =
-    let bound : binding_in (ancestor k.first.state.activations (newest_height k.first.state.activations) x.level) x.index
-    ≡ Some _ =
+    let bound : binding_in (ancestor k.first.state.activations (newest_height k.first.state.activations) x.level)
+    x.index ≡ Some _ =
     ap (λ us. binding_in (ancestor us (newest_height us) x.level) x.index) (active ∙ t.binds.active)
     ∙ newest_bound a as' t.binds.bindings x.level x.index own.0
     ∙ ap (λ n. binding_of t.binds.bindings n) own.2 ∙ t.bound in
@@ -282,8 +285,8 @@ pub own_telling :
     (is : IsNumber (block_at w code c p numbers) x) → is.serial < 2 ^ 64 →
     IsTelling (block_at w code c p numbers) x
 own_telling w code c p numbers xs d x h among own is few =
-    told_own (block_at w code c p numbers) x is q (layer_after w.parts (start.state.serials + 1) φ xs) p.control.layers a
-    p.state.activations d tells (ap (λ (u : Point). u.state.activations) here)
+    told_own (block_at w code c p numbers) x is q (layer_after w.parts (start.state.serials + 1) φ xs) p.control.layers
+    a p.state.activations d tells (ap (λ (u : Point). u.state.activations) here)
     (ap (λ (u : Point). u.control.layers) here ∙ layers_after w start φ p.control.layers xs refl)
     (own.level, own.level ∙ sym own.own, own.index) own.place few
   where

@@ -64,7 +64,8 @@ use Rattle.number_runs.proofs.Arrays.{element_is, subscript_given}
 use Rattle.number_runs.proofs.Narrow.{flag_does, narrow_does, narrow_told, narrow_with_is, text_known, text_type_is}
 use Rattle.list_calls.proofs.ParametersPassed.{parameter_told, parameters_passed}
 use Rattle.number_runs.proofs.Received.{named_told, passable_told, stored_untold}
-use Rattle.number_runs.proofs.Variables.{Names, Passable, parameter_is, variable_is, ways_are, ways_many, ways_of, ways_stored}
+use Rattle.number_runs.proofs.Variables.{Names, Passable, parameter_is, variable_is, ways_are, ways_many, ways_of}
+use Rattle.number_runs.proofs.Variables.{ways_stored}
 use Rattle.number_runs.proofs.Turns.{telling_same}
 use Rattle.number_runs.proofs.Waiting.{numbers_wait, numbers_without, texts_without, texts_unlocated}
 use Rattle.number_runs.proofs.Based.{through_is}
@@ -175,7 +176,8 @@ name_free last serial signature all told free inside =
     (word_free (last + 1) signature all _
     (word_free (last + 2) (serial / 2 ^ 32) all _
     (word_free (last + 3) (serial % 2 ^ 32) all _
-    (word_free (last + 4) 0 all _ (word_free (last + 5) 1 all told free (omega (arith, inside))) (omega (arith, inside)))
+    (word_free (last + 4) 0 all _ (word_free (last + 5) 1 all told free (omega (arith, inside)))
+    (omega (arith, inside)))
     (omega (arith, inside)))
     (omega (arith, inside)))
     (omega (arith, inside)))

@@ -1,6 +1,7 @@
--- The variables of a procedure's block: FIXED BINARY(31) scalars and arrays of one dimension, scalars of other types, and
--- pointers; to all but pointers INITIAL may give values.
-use Rattle.std.specs.Prelude.{ℕ, ◌+◌, ◌%◌, ◌^◌, ◌<◌, ◌≤◌, ◌≡◌, ◌&&◌, ◌||◌, Bool, true, List, [], ◌∷◌, length, Option, Some}
+-- The variables of a procedure's block: FIXED BINARY(31) scalars and arrays of one dimension, scalars of other types,
+-- and pointers; to all but pointers INITIAL may give values.
+use Rattle.std.specs.Prelude.{ℕ, ◌+◌, ◌%◌, ◌^◌, ◌<◌, ◌≤◌, ◌≡◌, ◌&&◌, ◌||◌, Bool, true, List, [], ◌∷◌, length, Option}
+use Rattle.std.specs.Prelude.{Some}
 use Rattle.std.specs.Prelude.{⊤}
 use Rattle.rv_meaning.specs.declared.instr.Instr.{Instr}
 use Rattle.pli_typing.specs.Signatures.{Bounds, data_size, footprint}
