@@ -36,3 +36,4 @@ pub mod GatheredRows
 pub mod TextRows
 pub mod AreaRows
 pub mod PowerRows
+pub mod InitialRows
