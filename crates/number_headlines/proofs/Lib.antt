@@ -35,3 +35,4 @@ pub mod GatheredRows
 pub mod TextRows
 pub mod AreaRows
 pub mod PowerRows
+pub mod EuclidRows

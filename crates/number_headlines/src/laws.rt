@@ -5,6 +5,7 @@ ghost use Rattle.number_headlines.specs.AreaRows.{GatherKept};
 ghost use Rattle.number_headlines.specs.ArrayRows.{SieveKept};
 ghost use Rattle.number_headlines.specs.CallRows.{CallingKept};
 ghost use Rattle.number_headlines.specs.CountRows.{CountingKept};
+ghost use Rattle.number_headlines.specs.EuclidRows.{EuclidKept};
 ghost use Rattle.number_headlines.specs.FlagRows.{FlagKept};
 ghost use Rattle.number_headlines.specs.GatheredRows.{GatheredKept};
 ghost use Rattle.number_headlines.specs.GivenRows.{FactKept};
@@ -124,6 +125,13 @@ pub fn gather_kept()
 /// A worked row with variables beside parameters: a function that raises a number to a power in a loop that counts.
 pub fn power_kept()
     ensures { PowerKept }
+{
+    number_headlines_kept();
+}
+
+/// A worked row with arguments by reference: a procedure calls itself with its parameter and a variable of its own.
+pub fn euclid_kept()
+    ensures { EuclidKept }
 {
     number_headlines_kept();
 }
