@@ -37,3 +37,4 @@ pub mod TextRows
 pub mod AreaRows
 pub mod PowerRows
 pub mod InitialRows
+pub mod EuclidRows

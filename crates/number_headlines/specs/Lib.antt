@@ -15,3 +15,4 @@ pub mod TextRows
 pub mod AreaRows
 pub mod PowerRows
 pub mod InitialRows
+pub mod EuclidRows

@@ -5,6 +5,7 @@ ghost use Rattle.number_headlines.specs.AreaRows.{GatherKept};
 ghost use Rattle.number_headlines.specs.ArrayRows.{SieveKept};
 ghost use Rattle.number_headlines.specs.CallRows.{CallingKept};
 ghost use Rattle.number_headlines.specs.CountRows.{CountingKept};
+ghost use Rattle.number_headlines.specs.EuclidRows.{EuclidKept};
 ghost use Rattle.number_headlines.specs.FlagRows.{FlagKept};
 ghost use Rattle.number_headlines.specs.GatheredRows.{GatheredKept};
 ghost use Rattle.number_headlines.specs.GivenRows.{FactKept};
@@ -132,6 +133,13 @@ pub fn power_kept()
 /// A worked row with INITIAL: a table of constants, a text, and a variable that begins anew in each block of a function.
 pub fn initial_kept()
     ensures { InitialKept }
+{
+    number_headlines_kept();
+}
+
+/// A worked row with arguments by reference: a procedure calls itself with its parameter and a variable of its own.
+pub fn euclid_kept()
+    ensures { EuclidKept }
 {
     number_headlines_kept();
 }
