@@ -16,3 +16,4 @@ pub mod AreaRows
 pub mod PowerRows
 pub mod InitialRows
 pub mod EuclidRows
+pub mod LentRows

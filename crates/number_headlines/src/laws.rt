@@ -11,6 +11,7 @@ ghost use Rattle.number_headlines.specs.GatheredRows.{GatheredKept};
 ghost use Rattle.number_headlines.specs.GivenRows.{FactKept};
 ghost use Rattle.number_headlines.specs.Headlines.{NumberHeadlinesKept};
 ghost use Rattle.number_headlines.specs.InitialRows.{InitialKept};
+ghost use Rattle.number_headlines.specs.LentRows.{LentKept};
 ghost use Rattle.number_headlines.specs.NestRows.{NestKept};
 ghost use Rattle.number_headlines.specs.PowerRows.{PowerKept};
 ghost use Rattle.number_headlines.specs.PutRows.{SquaresKept};
@@ -140,6 +141,13 @@ pub fn initial_kept()
 /// A worked row with arguments by reference: a procedure calls itself with its parameter and a variable of its own.
 pub fn euclid_kept()
     ensures { EuclidKept }
+{
+    number_headlines_kept();
+}
+
+/// A worked row with both: variables that INITIAL gave values are passed by reference.
+pub fn lent_kept()
+    ensures { LentKept }
 {
     number_headlines_kept();
 }
