@@ -48,9 +48,9 @@ use Rattle.run_steps.specs.Items.{Linked}
 use Rattle.run_steps.proofs.Jumps.{back_of, first_of, front_of}
 use Rattle.run_steps.proofs.Linking.{size_append}
 use Rattle.run_steps.specs.Reach.{Aims, Comes, Family, Reach, cost, reached}
-use Rattle.run_steps.proofs.Reach.{ending_then, pausing_then, reach_then, reached_holds}
+use Rattle.run_steps.proofs.Reach.{ending_then, pausing_then, reached_holds}
 use Rattle.run_steps.specs.Unlimited as U
-use Rattle.block_runs.specs.Machines.{AreIn, IsImage, IsIn}
+use Rattle.block_runs.specs.Machines.{AreIn, IsImage}
 use Rattle.block_runs.proofs.PointGrounds.{point_frame}
 use Rattle.program_runs.specs.Variables.{Declared, generation_for}
 use Rattle.program_runs.proofs.Initial.{place_near, values_read}

@@ -325,7 +325,8 @@ words_over w code e around p numbers φ φs place index (d ∷ ds) has plain tab
     (λ e'.
     let less = leb-true (automatic_in_use p.state.living + variable_bytes d) most_automatic e' in
     later_over w code e around p numbers φ φs place index d ds has a.0
-    (one_declared w code p φ φs e place index 0 d a.0 tabled.0 begin.0 (stack_room (variable_bytes d) (bytes_of ds) h less))
+    (one_declared w code p φ φs e place index 0 d a.0 tabled.0 begin.0
+    (stack_room (variable_bytes d) (bytes_of ds) h less))
     (words_over w code e around (behind_made w.parts φ x p) numbers
     (layer_behind w.parts (p.state.serials + 1) φ x) φs (place + variable_bytes d) (index + 1) ds
     has a.1 tabled.1 begin.1 (next_owner w.parts p φ x owner)

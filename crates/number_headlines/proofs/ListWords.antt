@@ -1,7 +1,7 @@
 -- The variables that a block of the class has behind its parameters: what the program declares, their code, and what
 -- making them means.
-use Rattle.std.proofs.Common.{◌≡◌, ℕ, zero, suc, ◌+◌, ◌<◌, ◌≤◌, List, [], ◌∷◌, Option, Some, Bool, true, false, length, inr}
-use Rattle.std.proofs.Common.{refl, sym, ap, ◌∙◌, subst, arith}
+use Rattle.std.proofs.Common.{◌≡◌, ℕ, zero, suc, ◌+◌, ◌<◌, ◌≤◌, List, [], ◌∷◌, Option, Some, Bool, true, false, inr}
+use Rattle.std.proofs.Common.{length, refl, sym, ap, ◌∙◌, subst, arith}
 use Rattle.std.specs.Prelude.{if◌then◌else◌, min, slice_get}
 use Rattle.std.proofs.lemmas.Bool.{and_parts}
 use Rattle.rv_meaning.specs.declared.instr.Instr.{Instr}
@@ -19,7 +19,8 @@ use Rattle.variable_runs.specs.Lists.{AreThose}
 use Rattle.list_calls.specs.Lists.{Parameter}
 use Rattle.pli_coding.specs.StaticData.{PlacedDatum}
 use Rattle.number_runs.specs.Numbers.{is_parameter, is_parameter_if}
-use Rattle.number_runs.specs.Variables.{AreTabled, EachBegins, are_plain, bytes_of, is_declared, variable_bytes, words_from}
+use Rattle.number_runs.specs.Variables.{AreTabled, EachBegins, are_plain, bytes_of, is_declared, variable_bytes}
+use Rattle.number_runs.specs.Variables.{words_from}
 use Rattle.number_runs.proofs.Variables.{parameter_declared_is}
 use Rattle.number_headlines.specs.Programs.{are_parameters, beside_received, received_in}
 use Rattle.number_headlines.proofs.ListPlaces.{parameters_at}

@@ -209,7 +209,8 @@ fixed_makeable p initial few fit =
     }
 
 bit_makeable :
-    (initial : List T.InitialItem) → are_values Y.BitLeaf initial ≡ true → IsMakeable (scalar_declared Y.BitLeaf initial)
+    (initial : List T.InitialItem) → are_values Y.BitLeaf initial ≡ true →
+    IsMakeable (scalar_declared Y.BitLeaf initial)
 bit_makeable initial fit =
     record {
       class = refl;

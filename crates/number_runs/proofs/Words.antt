@@ -373,8 +373,8 @@ all_words w code c p numbers h =
       parts = h.parts;
       few = few_words e first 0 ds w.serials h.few;
       declared =
-          words_declared w code (begun_at w c p numbers) (layer_for w p numbers c.procedure c.calling) p.control.layers e
-          first 0 ds h.plain h.tabled h.begin h.room;
+          words_declared w code (begun_at w c p numbers) (layer_for w p numbers c.procedure c.calling) p.control.layers
+          e first 0 ds h.plain h.tabled h.begin h.room;
     }
   where
     few_words :
@@ -490,8 +490,8 @@ narrow_known k x o f known =
 
 pub own_word :
     (w : Surroundings) (code : List Instr) (c : Callee) (p q : Point) (numbers : ℕ → ℕ) (x : Spot) →
-    HasParts w.parts → HasWords w code c q numbers × AreAllBegun w code c p numbers (words_in c.environment) → IsOwnWord c x →
-    IsBegun (block_at w code c p numbers) → IsNumber (block_at w code c p numbers) x
+    HasParts w.parts → HasWords w code c q numbers × AreAllBegun w code c p numbers (words_in c.environment) →
+    IsOwnWord c x → IsBegun (block_at w code c p numbers) → IsNumber (block_at w code c p numbers) x
 own_word w code c p q numbers x parts known own b =
     let there = found (declared_variable c.environment.program (variable_of x)) own.plain in
     known_number (block_at w code c p numbers) x there.initial
@@ -499,8 +499,8 @@ own_word w code c p q numbers x parts known own b =
 
 pub own_array :
     (w : Surroundings) (code : List Instr) (c : Callee) (p q : Point) (numbers : ℕ → ℕ) (x : Spot) →
-    HasParts w.parts → HasWords w code c q numbers × AreAllBegun w code c p numbers (words_in c.environment) → IsOwnArray c x →
-    IsBegun (block_at w code c p numbers) → IsArray (block_at w code c p numbers) x (own_bounds c x)
+    HasParts w.parts → HasWords w code c q numbers × AreAllBegun w code c p numbers (words_in c.environment) →
+    IsOwnArray c x → IsBegun (block_at w code c p numbers) → IsArray (block_at w code c p numbers) x (own_bounds c x)
 own_array w code c p q numbers x parts known own b =
     let o = declared_variable c.environment.program (variable_of x) in
     let there = found_array o own.array in
@@ -509,16 +509,18 @@ own_array w code c p q numbers x parts known own b =
 
 pub function_word :
     (w : Surroundings) (code : List Instr) (c : Callee) (p q : Point) (numbers : ℕ → ℕ) (x : Spot) →
-    HasParts w.parts → HasWords w code c q numbers × AreAllBegun w code c p numbers (words_in c.environment) → IsOwnWord c x →
-    IsBegun (function_block w code c p numbers) → IsNumber (function_block w code c p numbers) x
+    HasParts w.parts → HasWords w code c q numbers × AreAllBegun w code c p numbers (words_in c.environment) →
+    IsOwnWord c x → IsBegun (function_block w code c p numbers) → IsNumber (function_block w code c p numbers) x
 function_word w code c p q numbers x parts known own b =
     let there = found (declared_variable c.environment.program (variable_of x)) own.plain in
     known_number (function_block w code c p numbers) x there.initial
-    (function_known w code c p q numbers x (number_declared there.initial) parts known (own.block, own.level) there.is b)
+    (function_known w code c p q numbers x (number_declared there.initial) parts known (own.block, own.level) there.is
+    b)
 
 pub function_array :
     (w : Surroundings) (code : List Instr) (c : Callee) (p q : Point) (numbers : ℕ → ℕ) (x : Spot) →
-    HasParts w.parts → HasWords w code c q numbers × AreAllBegun w code c p numbers (words_in c.environment) → IsOwnArray c x →
+    HasParts w.parts → HasWords w code c q numbers × AreAllBegun w code c p numbers (words_in c.environment) →
+    IsOwnArray c x →
     IsBegun (function_block w code c p numbers) → IsArray (function_block w code c p numbers) x (own_bounds c x)
 function_array w code c p q numbers x parts known own b =
     let o = declared_variable c.environment.program (variable_of x) in
@@ -528,8 +530,8 @@ function_array w code c p q numbers x parts known own b =
 
 pub own_narrow :
     (w : Surroundings) (code : List Instr) (c : Callee) (p q : Point) (numbers : ℕ → ℕ) (x : Spot) →
-    HasParts w.parts → HasWords w code c q numbers × AreAllBegun w code c p numbers (words_in c.environment) → IsOwnNarrow c x →
-    IsBegun (block_at w code c p numbers) → IsScalar (block_at w code c p numbers) x (own_type c x)
+    HasParts w.parts → HasWords w code c q numbers × AreAllBegun w code c p numbers (words_in c.environment) →
+    IsOwnNarrow c x → IsBegun (block_at w code c p numbers) → IsScalar (block_at w code c p numbers) x (own_type c x)
 own_narrow w code c p q numbers x parts known own b =
     let o = declared_variable c.environment.program (variable_of x) in
     let there = found_narrow o own.narrow in
@@ -538,7 +540,8 @@ own_narrow w code c p q numbers x parts known own b =
 
 pub function_narrow :
     (w : Surroundings) (code : List Instr) (c : Callee) (p q : Point) (numbers : ℕ → ℕ) (x : Spot) →
-    HasParts w.parts → HasWords w code c q numbers × AreAllBegun w code c p numbers (words_in c.environment) → IsOwnNarrow c x →
+    HasParts w.parts → HasWords w code c q numbers × AreAllBegun w code c p numbers (words_in c.environment) →
+    IsOwnNarrow c x →
     IsBegun (function_block w code c p numbers) → IsScalar (function_block w code c p numbers) x (own_type c x)
 function_narrow w code c p q numbers x parts known own b =
     let o = declared_variable c.environment.program (variable_of x) in

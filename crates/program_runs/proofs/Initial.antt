@@ -93,8 +93,8 @@ values_read code p all d m begins some long holds = by (initial_datum d) refl be
 
 -- the place is a word of memory
 pub place_near :
-    (constants : ℕ → Option ℕ) (code : List Instr) (all : List PlacedDatum) (d : Y.DeclaredVariable) (o : Option Datum) →
-    BeginsWith constants code all d o → place_if all o < 2 ^ 32
+    (constants : ℕ → Option ℕ) (code : List Instr) (all : List PlacedDatum) (d : Y.DeclaredVariable)
+    (o : Option Datum) → BeginsWith constants code all d o → place_if all o < 2 ^ 32
 place_near constants code all d None h = omega arith
 place_near constants code all d (Some (InitialValues ls)) h = let inside = h.whole.inside in omega (arith, inside)
 place_near constants code all d (Some (ConstantBytes bytes)) h = absurd h

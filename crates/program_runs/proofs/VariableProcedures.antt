@@ -79,8 +79,8 @@ one_by w code c made'' p numbers x told h here becomes =
           (subst (λ xs. Reach code credits f (services_of start) (credits + size_of xs) (services_of q)
           (λ b z. IsIn w q numbers (variables_index c + size_of xs) b z)) (sym h.code)
           (becomes_comes w code c.environment start q numbers x φ p.control.layers credits (variables_index c) f known
-          (without_initial w code start x φ p.control.layers h.declared) (becomes known) (h.table, h.parts) (subst (Linked w.links code (variables_index c)) h.code l)
-          there));
+          (without_initial w code start x φ p.control.layers h.declared) (becomes known) (h.table, h.parts)
+          (subst (Linked w.links code (variables_index c)) h.code l) there));
       means = block_means around' c.procedure.head c.procedure.head.kind x.declared w.acts start.state q.state h.kind
           h.variables
           (variables_mean around' x.declared w.acts start.state q.state h.class h.evaluations made)

@@ -1,6 +1,6 @@
 -- The code that makes a variable in the newest block.
-use Rattle.std.proofs.Common.{◌≡◌, ℕ, ◌+◌, ◌^◌, ◌<◌, List, [], ◌∷◌, ◌++◌, length, Option, None, Some, true, refl, sym, ap}
-use Rattle.std.proofs.Common.{◌∙◌, subst, arith}
+use Rattle.std.proofs.Common.{◌≡◌, ℕ, ◌+◌, ◌^◌, ◌<◌, List, [], ◌∷◌, ◌++◌, length, Option, None, Some, true, refl}
+use Rattle.std.proofs.Common.{sym, ap, ◌∙◌, subst, arith}
 use Rattle.std.proofs.lemmas.Bool.{eq-eqb}
 use Rattle.std.proofs.lemmas.List.{append_assoc}
 use Rattle.std.proofs.lemmas.Int.{ints}
@@ -21,7 +21,7 @@ use Rattle.pli_meaning.specs.Making.{with_variable}
 use Rattle.pli_meaning.specs.StorageState.{Activation, automatic_in_use, most_automatic}
 use Rattle.pli_serving.specs.Answers.{Answer, Done}
 use Rattle.pli_serving.specs.ServiceState.{Services}
-use Rattle.pli_coding.specs.Assembly.{Code, DataPlace, Datum, OffsetOf, Plain, size_of}
+use Rattle.pli_coding.specs.Assembly.{Code, Datum, Plain, size_of}
 use Rattle.pli_coding.specs.Entries.{constant_made}
 use Rattle.pli_coding.specs.Environments.{Environment}
 use Rattle.pli_coding.specs.Extents.{initial_code, initial_given}
@@ -277,7 +277,8 @@ all_asked {w} {p} {numbers = numbers} given x h c f few l there =
     (record { reserved_stay = λ y u. refl; known_stay = λ b y u o. o; set = λ y u. refl })
     (front_of data' two l) there in
     let r2 = straight (c + size_of data') (reached r1) v v
-    (λ b y. Known (point_ground w p h) v numbers (λ n'. 0) (asked_regs w p given x) b y) (back_of data' two l) (omega arith)
+    (λ b y. Known (point_ground w p h) v numbers (λ n'. 0) (asked_regs w p given x) b y) (back_of data' two l)
+    (omega arith)
     (λ b. (reached_holds r1 b).pc)
     (λ b. let o = (reached_holds r1 b).holds in record {
       body = record {
@@ -458,7 +459,8 @@ becomes_comes w code e p q numbers x φ φs c index f known is becomes same l th
     }) in
     let r4 = stack_taken k becomes h h' (c + size_of front + size_of (data' ++ two) + 1) (reached r3)
     (omega (arith, few)) (rest_of (Plain I.Ecall) stack l4) (reached_holds r3) in
-    let all = reach_moved (omega (arith, size, n0, n1, n2, n3, n4, n5, n6)) (omega (arith, size, n0, n1, n2, n3, n4, n5, n6))
+    let all = reach_moved (omega (arith, size, n0, n1, n2, n3, n4, n5, n6))
+    (omega (arith, size, n0, n1, n2, n3, n4, n5, n6))
     (reach_then r1 (reach_then r2 (reach_then r3 r4))) in
     reach_map _ all (λ b y o. in_known h' new.1.parts o)
 

@@ -1,5 +1,5 @@
--- What a variable begins with: nothing is given to it, or INITIAL values, whose lists are told at their places in static
--- data, so they stand at each point. Such a variable is made in the newest block, where service 7 is given that place.
+-- What a variable begins with: nothing is given to it, or INITIAL values, whose lists are told at their places in
+-- static data, so they stand at each point. It is made in the newest block by service 7, which is given that place.
 use Rattle.std.specs.Prelude.{ℕ, ◌+◌, ◌*◌, ◌%◌, ◌^◌, ◌<◌, ◌≤◌, ◌≡◌, List, [], ◌∷◌, length, Option, None, Some, true, ⊤}
 use Rattle.std.specs.Prelude.{nat_le, slice_index}
 use Rattle.rv_meaning.specs.declared.instr.Instr.{Instr}

@@ -259,7 +259,8 @@ all_bind w p φ (x ∷ xs) a as' h =
 
 pub all_remain :
     (w : Surroundings) (code : List Instr) (r p : Point) (φ : Layer) (φs : List Layer) (xs : List Declared)
-    (a : Activation) (as' : List Activation) → AllMayBegin w code p φ φs xs → Binds p a as' → length r.state.activations < a.height →
+    (a : Activation) (as' : List Activation) → AllMayBegin w code p φ φs xs → Binds p a as' →
+    length r.state.activations < a.height →
     Lives p.places p.state → Remains r p → Remains r (all_made w.parts φ xs p)
 all_remain w code r p φ φs [] a as' are binds above lives remains = remains
 all_remain w code r p φ φs (x ∷ xs) a as' are binds above lives remains =

@@ -1,5 +1,5 @@
--- Several variables of constant size, with INITIAL values and without, areas among them, made one behind the other in the
--- newest block.
+-- Several variables of constant size, with INITIAL values and without, areas among them, made one behind the other in
+-- the newest block.
 use Rattle.std.specs.Prelude.{ℕ, ◌+◌, ◌^◌, ◌<◌, ◌≤◌, ◌≡◌, ◌⊎◌, ◌++◌, List, [], ◌∷◌, length, Option, None, Some, is_some}
 use Rattle.std.specs.Prelude.{false, true, ⊤}
 use Rattle.rv_meaning.specs.declared.instr.Instr.{Instr}
@@ -108,7 +108,7 @@ AreThose n (x ∷ xs) (d ∷ ds) =
 
 -- ---- the variables of a procedure
 
--- the program declares them so, its code is that, and no more serials come between two acts than there are of them
+-- the program declares them so, its code is that, and as many serials may come between two acts as there are of them
 pub record AreAllOf (P : Point → Declared → Layer → List Layer → Type 0) (w : Surroundings) (c : Callee) (p : Point)
     (numbers : ℕ → ℕ) (xs : List Declared) : Type 0
   where
