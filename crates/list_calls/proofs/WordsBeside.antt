@@ -24,13 +24,13 @@ use Rattle.run_steps.specs.Reach.{Reach}
 use Rattle.block_runs.specs.Bodies.{Function}
 use Rattle.block_runs.specs.Machines.{IsImage, IsIn}
 use Rattle.program_runs.specs.Variables.{Declared, generation_for}
-use Rattle.variable_runs.specs.Lists.{AreListed, all_made, behind_made, first_all, layer_after, layer_behind, made_code}
+use Rattle.variable_runs.specs.Lists.{AreListed, all_made, behind_made, first_all, layer_after, layer_behind}
 use Rattle.variable_runs.specs.Lists.{made_now, newest_all}
 use Rattle.variable_runs.proofs.Lists.{Binds, all_come, all_mean, all_remain, all_serials, all_stand, all_world}
 use Rattle.variable_runs.proofs.Lists.{block_means, changed_in, layer_resumed, layers_after}
 use Rattle.argument_runs.specs.ListCalls.{entered_point}
 use Rattle.list_calls.specs.Lists.{bindings_with, bound_layer}
-use Rattle.list_calls.specs.Taking.{AreBeside, ListCall, act_index, bound_point, bound_waits, called_of, giving_of}
+use Rattle.list_calls.specs.Taking.{AreBeside, ListCall, act_index, bound_point, bound_waits, giving_of}
 use Rattle.list_calls.specs.Taking.{listed_layer, variables_index}
 use Rattle.list_calls.specs.WordsBeside.{AreAllBeside}
 use Rattle.list_calls.proofs.Bound.{all_bound}

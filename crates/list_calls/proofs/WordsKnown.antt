@@ -1,18 +1,14 @@
 -- The variables behind the parameters of a procedure in its own block: each lives since it was made, and stands where
 -- the frame ended then.
-use Rattle.std.proofs.Common.{◌≡◌, ◌≢◌, ℕ, ◌+◌, ◌*◌, ◌^◌, ◌<◌, ◌≤◌, inl, inr, List, [], ◌∷◌, Some, refl, sym, ap}
+use Rattle.std.proofs.Common.{◌≡◌, ℕ, ◌+◌, ◌*◌, ◌^◌, ◌≤◌, inl, List, [], ◌∷◌, Some, refl, sym, ap}
 use Rattle.std.proofs.Common.{◌∙◌, Option, subst, arith}
 use Rattle.std.proofs.lemmas.Bool.{eq-eqb}
-use Rattle.std.specs.Prelude.{◌==◌, cond}
 use Rattle.pli_typing.specs.Signatures.{data_size}
 use Rattle.pli_meaning.specs.BasicValues.{VariableName}
 use Rattle.pli_meaning.specs.DeclaredShapes.{shape_of}
-use Rattle.pli_meaning.specs.Making.{living_at, with_binding}
-use Rattle.pli_meaning.specs.StorageState.{Activation, Binding, Living, ancestor, binding_in, binding_of}
+use Rattle.pli_meaning.specs.StorageState.{Activation, ancestor, binding_in, binding_of}
 use Rattle.pli_meaning.specs.StorageState.{living_of, newest_height}
-use Rattle.pli_coding.specs.Environments.{Environment}
-use Rattle.pli_coding.specs.Frames.{MemoryParts, name_bytes}
-use Rattle.storage_relation.proofs.Holders.{eqb-other}
+use Rattle.pli_coding.specs.Frames.{name_bytes}
 use Rattle.activation_relation.specs.FrameLaws.{with_waits}
 use Rattle.activation_relation.specs.Frames.{AreLaid, frame_under}
 use Rattle.activation_relation.specs.Layers.{Layer, Point}
@@ -21,7 +17,7 @@ use Rattle.block_runs.specs.Bodies.{Function}
 use Rattle.block_runs.specs.Machines.{HasParts}
 use Rattle.block_runs.proofs.Places.{Bounds, bounds}
 use Rattle.program_runs.specs.Statements.{IsBegun}
-use Rattle.program_runs.specs.Variables.{Declared, generation_for}
+use Rattle.program_runs.specs.Variables.{Declared}
 use Rattle.expression_runs.specs.Variables.{Spot}
 use Rattle.variable_runs.specs.Known.{IsKnown}
 use Rattle.variable_runs.specs.Lists.{Among, all_made, first_all, layer_after, newest_all}

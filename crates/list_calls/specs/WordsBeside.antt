@@ -13,8 +13,8 @@ use Rattle.variable_runs.specs.Lists.{AllMayBegin, Among, AreListed, AreThose, m
 use Rattle.list_calls.specs.Lists.{Parameter, bound_layer, copies_in}
 use Rattle.list_calls.specs.Taking.{AreBeside, ListCall, Taking, bound_point, bound_waits, list_block, listed_layer}
 
--- the program declares them so, each behind the parameters; the procedure's code is that, and no more serials come
--- between two acts than there are of them and of copies
+-- the program declares them so, each behind the parameters; the procedure's code is that, and as many serials may come
+-- between two acts as there are of them and of copies
 pub record AreAllBeside (g : Option Function) (y : ListCall) (first : ℕ) (xs : List Declared) : Type 0 where
   pub kind : y.callee.procedure.head.kind ≡ Y.ProcedureBlock
   pub those : AreThose 0 xs (variables_of_block y.callee.around.program y.callee.procedure.head.number)

@@ -33,8 +33,9 @@ use Rattle.scalar_runs.specs.Scalars.{scalar_declared, scalar_leaf}
 use Rattle.pli_headline.specs.Headline.{FitsMemory, parts}
 use Rattle.number_headlines.specs.CallRows.{head_at}
 use Rattle.number_headlines.specs.Headlines.{IsNumberProgram}
-use Rattle.number_headlines.specs.InitialRows.{count_body, count_call, count_function, entries_used, entry_at, initial_body}
-use Rattle.number_headlines.specs.InitialRows.{initial_main, initial_program, less, local_spot, number_items, result_spot}
+use Rattle.number_headlines.specs.InitialRows.{count_body, count_call, count_function, entries_used, entry_at}
+use Rattle.number_headlines.specs.InitialRows.{initial_body, initial_main, initial_program, less, local_spot}
+use Rattle.number_headlines.specs.InitialRows.{number_items, result_spot}
 use Rattle.number_headlines.specs.InitialRows.{table_bounds, table_items, table_spot, title_formats, title_items}
 use Rattle.number_headlines.specs.InitialRows.{title_spot, title_type, turn_spot, value_of}
 

@@ -55,8 +55,8 @@ use Rattle.number_headlines.proofs.ListPlaces.{parameters_many}
 use Rattle.number_headlines.proofs.ListSites.{CopiesFit, IsSite, Site', bound_at, copies_few, own_of, parameters_for}
 use Rattle.number_headlines.proofs.ListSites.{passed_at, words_for}
 use Rattle.number_headlines.proofs.Begins.{begins_at, block_begins}
-use Rattle.number_headlines.proofs.ListWords.{begins_behind, behind_here, bytes_behind, code_behind, many_behind}
-use Rattle.number_headlines.proofs.ListWords.{means_behind}
+use Rattle.number_headlines.proofs.ListWords.{begins_behind, behind_here, bytes_behind, code_behind}
+use Rattle.number_headlines.proofs.ListWords.{many_behind, means_behind}
 use Rattle.number_headlines.proofs.ListWords.{parameter_before, parameter_there, place_behind, tabled_behind}
 use Rattle.number_headlines.proofs.ListWords.{those_behind, words_many}
 

@@ -1,8 +1,7 @@
 -- The variables that a block of the class has behind its parameters: what the program declares, their code, and what
 -- making them means.
-use Rattle.std.proofs.Common.{◌≡◌, ℕ, zero, suc, ◌+◌, ◌<◌, ◌≤◌, List, [], ◌∷◌, Option, Some, Bool, true, false}
-use Rattle.std.proofs.Common.{length, inr}
-use Rattle.std.proofs.Common.{refl, sym, ap, ◌∙◌, subst, arith}
+use Rattle.std.proofs.Common.{◌≡◌, ℕ, zero, suc, ◌+◌, ◌<◌, ◌≤◌, List, [], ◌∷◌, Option, Some, Bool, true, false, inr}
+use Rattle.std.proofs.Common.{length, refl, sym, ap, ◌∙◌, subst, arith}
 use Rattle.std.specs.Prelude.{if◌then◌else◌, min, slice_get}
 use Rattle.std.proofs.lemmas.Bool.{and_parts}
 use Rattle.rv_meaning.specs.declared.instr.Instr.{Instr}

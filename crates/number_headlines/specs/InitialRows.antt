@@ -1,5 +1,5 @@
--- A worked row with INITIAL: a program of the class with a table of constants and an asterisk, a text, and a function that
--- calls itself, in whose every block a variable begins anew.
+-- A worked row with INITIAL: a program of the class with a table of constants and an asterisk, a text, and a function
+-- that calls itself, in whose every block a variable begins anew.
 use Rattle.std.specs.Prelude.{ℕ, ◌≡◌, List, [], ◌∷◌, None, pos, Some, true}
 use Rattle.pli_language.specs.Tree as T
 use Rattle.pli_typing.specs.Signatures.{Bounds}

@@ -131,7 +131,8 @@ pub fn power_kept()
     number_headlines_kept();
 }
 
-/// A worked row with INITIAL: a table of constants, a text, and a variable that begins anew in each block of a function.
+/// A worked row with INITIAL: a table of constants, a text, and a variable that begins anew in each block of a
+/// function.
 pub fn initial_kept()
     ensures { InitialKept }
 {

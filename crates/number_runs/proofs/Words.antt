@@ -510,8 +510,7 @@ narrow_known k x o f known =
 pub own_word :
     (w : Surroundings) (code : List Instr) (c : Callee) (p q : Point) (numbers : ℕ → ℕ) (x : Spot) →
     HasParts w.parts → HasWords w code c q numbers × AreAllBegun w code c p numbers (words_in c.environment) →
-    IsOwnWord c x →
-    IsBegun (block_at w code c p numbers) → IsNumber (block_at w code c p numbers) x
+    IsOwnWord c x → IsBegun (block_at w code c p numbers) → IsNumber (block_at w code c p numbers) x
 own_word w code c p q numbers x parts known own b =
     let there = found (declared_variable c.environment.program (variable_of x)) own.plain in
     known_number (block_at w code c p numbers) x there.initial
@@ -520,8 +519,7 @@ own_word w code c p q numbers x parts known own b =
 pub own_array :
     (w : Surroundings) (code : List Instr) (c : Callee) (p q : Point) (numbers : ℕ → ℕ) (x : Spot) →
     HasParts w.parts → HasWords w code c q numbers × AreAllBegun w code c p numbers (words_in c.environment) →
-    IsOwnArray c x →
-    IsBegun (block_at w code c p numbers) → IsArray (block_at w code c p numbers) x (own_bounds c x)
+    IsOwnArray c x → IsBegun (block_at w code c p numbers) → IsArray (block_at w code c p numbers) x (own_bounds c x)
 own_array w code c p q numbers x parts known own b =
     let o = declared_variable c.environment.program (variable_of x) in
     let there = found_array o own.array in
@@ -531,8 +529,7 @@ own_array w code c p q numbers x parts known own b =
 pub function_word :
     (w : Surroundings) (code : List Instr) (c : Callee) (p q : Point) (numbers : ℕ → ℕ) (x : Spot) →
     HasParts w.parts → HasWords w code c q numbers × AreAllBegun w code c p numbers (words_in c.environment) →
-    IsOwnWord c x →
-    IsBegun (function_block w code c p numbers) → IsNumber (function_block w code c p numbers) x
+    IsOwnWord c x → IsBegun (function_block w code c p numbers) → IsNumber (function_block w code c p numbers) x
 function_word w code c p q numbers x parts known own b =
     let there = found (declared_variable c.environment.program (variable_of x)) own.plain in
     known_number (function_block w code c p numbers) x there.initial
@@ -553,8 +550,7 @@ function_array w code c p q numbers x parts known own b =
 pub own_narrow :
     (w : Surroundings) (code : List Instr) (c : Callee) (p q : Point) (numbers : ℕ → ℕ) (x : Spot) →
     HasParts w.parts → HasWords w code c q numbers × AreAllBegun w code c p numbers (words_in c.environment) →
-    IsOwnNarrow c x →
-    IsBegun (block_at w code c p numbers) → IsScalar (block_at w code c p numbers) x (own_type c x)
+    IsOwnNarrow c x → IsBegun (block_at w code c p numbers) → IsScalar (block_at w code c p numbers) x (own_type c x)
 own_narrow w code c p q numbers x parts known own b =
     let o = declared_variable c.environment.program (variable_of x) in
     let there = found_narrow o own.narrow in

@@ -24,8 +24,7 @@ use Rattle.area_runs.specs.Allocations.{HasArea}
 use Rattle.area_runs.specs.Based.{pointer_declared}
 use Rattle.number_runs.specs.Based.{is_area_if, is_based, is_pointer_if}
 use Rattle.number_runs.specs.Variables.{AreTabled, EachBegins, HaveRoom, IsOwnArray, IsOwnNarrow, IsOwnWord, are_any}
-use Rattle.number_runs.specs.Variables.{own_bounds}
-use Rattle.number_runs.specs.Variables.{own_type}
+use Rattle.number_runs.specs.Variables.{own_bounds, own_type}
 
 -- what they take in its frame: an area as many bytes as its keeper needs, and what is BASED none
 abbrev pub held_bytes : MemoryParts → List Y.DeclaredVariable → ℕ
