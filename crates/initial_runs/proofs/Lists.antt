@@ -37,9 +37,8 @@ use Rattle.run_steps.proofs.Reach.{reach_then, reached_holds, stay}
 use Rattle.block_runs.specs.Machines.{AreIn, IsImage, IsIn}
 use Rattle.program_runs.specs.Calls.{AreMade, Callee, act_index, begun_at, variables_index}
 use Rattle.program_runs.specs.Procedures.{beginning_for, layer_for}
-use Rattle.program_runs.specs.Variables.{Declared, IsDeclared, generation_for, made_of}
+use Rattle.program_runs.specs.Variables.{Declared, generation_for, made_of}
 use Rattle.program_runs.proofs.Variables.{variable_means}
-use Rattle.variable_runs.specs.Areas.{IsArea}
 use Rattle.variable_runs.specs.Lists.{AreAll, AreDeclared, AreListed, AreThose, all_made, behind_made}
 use Rattle.variable_runs.specs.Lists.{layer_after, layer_behind, made_code, made_now, told_by}
 use Rattle.variable_runs.proofs.AreaVariables.{area_means}

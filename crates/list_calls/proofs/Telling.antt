@@ -1,5 +1,5 @@
 -- Numbers whose names the frames of their blocks tell, from where they are made.
-use Rattle.std.proofs.Common.{◌≡◌, ◌⊎◌, inl, inr, ℕ, ◌+◌, ◌/◌, ◌^◌, ◌<◌, ◌≤◌, List, [], ◌∷◌, length, Option, None, Some}
+use Rattle.std.proofs.Common.{◌≡◌, inl, inr, ℕ, ◌+◌, ◌/◌, ◌^◌, ◌<◌, ◌≤◌, List, [], ◌∷◌, length, Option, None, Some}
 use Rattle.std.proofs.Common.{true, false, refl, sym, ap, ◌∙◌, subst, arith}
 use Rattle.std.specs.Prelude.{◌%◌, ◌==◌, Bool, cond, nat_lt}
 use Rattle.std.proofs.lemmas.Bool.{eq-eqb, lt-ltb}
@@ -265,8 +265,8 @@ told_own :
     is.serial < 2 ^ 64 → IsTelling k x
 unfolding serial_in serial_of
 told_own k x is q φ φs a as' d t active layers own place few =
-    let bound : binding_in (ancestor k.first.state.activations (newest_height k.first.state.activations) x.level) x.index
-    ≡ Some _ =
+    let bound : binding_in (ancestor k.first.state.activations (newest_height k.first.state.activations) x.level)
+    x.index ≡ Some _ =
     ap (λ us. binding_in (ancestor us (newest_height us) x.level) x.index) (active ∙ t.binds.active)
     ∙ newest_bound a as' t.binds.bindings x.level x.index own.0
     ∙ ap (λ n. binding_of t.binds.bindings n) own.2 ∙ t.bound in
@@ -291,8 +291,8 @@ pub own_telling :
     initial_datum d.declared ≡ None → (is : IsNumber (block_at w code c p numbers) x) → is.serial < 2 ^ 64 →
     IsTelling (block_at w code c p numbers) x
 own_telling w code c p numbers xs d x h among own none is few =
-    told_own (block_at w code c p numbers) x is q (layer_after w.parts (start.state.serials + 1) φ xs) p.control.layers a
-    p.state.activations d tells (ap (λ (u : Point). u.state.activations) here)
+    told_own (block_at w code c p numbers) x is q (layer_after w.parts (start.state.serials + 1) φ xs) p.control.layers
+    a p.state.activations d tells (ap (λ (u : Point). u.state.activations) here)
     (ap (λ (u : Point). u.control.layers) here ∙ layers_after w start φ p.control.layers xs refl)
     (own.level, own.level ∙ sym own.own, own.index) own.place few
   where

@@ -1,5 +1,5 @@
--- Numbers whose names the frames of their blocks tell: those that a block makes, and, in what is called from it, those of
--- the blocks around. So their names may be passed.
+-- Numbers whose names the frames of their blocks tell: those that a block makes, and, in what is called from it, those
+-- of the blocks around. So their names may be passed.
 use Rattle.std.specs.Prelude.{ℕ, ◌^◌, ◌<◌, ◌≤◌, ◌≡◌, List, None, Option, Some}
 use Rattle.rv_meaning.specs.declared.instr.Instr.{Instr}
 use Rattle.pli_serving.specs.Templates.{shape_at}

@@ -575,7 +575,8 @@ each_named {program} m {input} {acts} {valued} {more} {b} {a} {p} {numbers} o {v
         subst (λ y. IsTelling y x) same
         (outer_telling_by v k c level x (is_inside m o i call) low.0
         (o.running.named x
-        (and_from (list_any (is_place x) (places_to (environment_for program a.head) a.head.level)) plain low.1 parts.1))
+        (and_from (list_any (is_place x) (places_to (environment_for program a.head) a.head.level)) plain low.1
+        parts.1))
         p numbers o.among (are_made m o i call pass) begun')
     by (inr own) =
         let is = subst (λ y. IsNumber y x) (sym same) (each_number m o i call pass b' x h) in

@@ -1,6 +1,6 @@
 -- A block of the class that is called with a list of arguments: its variables are made, and what is known there.
-use Rattle.std.proofs.Common.{◌≡◌, ◌⊎◌, inl, inr, ℕ, suc, ◌+◌, ◌^◌, ◌<◌, ◌≤◌, List, [], ◌∷◌, length, Option, Some, Bool, true}
-use Rattle.std.proofs.Common.{false, refl, sym, ap, ◌∙◌, subst, arith}
+use Rattle.std.proofs.Common.{◌≡◌, ◌⊎◌, inl, inr, ℕ, suc, ◌+◌, ◌^◌, ◌<◌, ◌≤◌, List, [], ◌∷◌, length, Option, Some}
+use Rattle.std.proofs.Common.{Bool, true, false, refl, sym, ap, ◌∙◌, subst, arith}
 use Rattle.std.specs.Prelude.{◌&&◌, ◌||◌, ◌==◌, nat_lt, slice_get, if◌then◌else◌}
 use Rattle.std.specs.List.{list_any}
 use Rattle.std.proofs.lemmas.Bool.{and_from, and_parts, eqb-true, ltb-true}
@@ -339,16 +339,16 @@ given_named {program} m {input} {acts} {valued} {more} {b} {a} {ns} {v} {level} 
         ((x.level ≤ level) × (around' ≡ true)) ⊎ ((x.block ≡ i.head.number) × (x.level ≡ i.head.level)) →
         IsTelling (block_of_run program input acts v more (run_given o)) x
     by (inl low) =
-        inner_list_telling (function_by v) (calls_from o) (call_of o) more o.point o.numbers o.passed x (begins m o) low.0
-        (o.caller.named x (and_from around' plain low.1 parts.1))
+        inner_list_telling (function_by v) (calls_from o) (call_of o) more o.point o.numbers o.passed x (begins m o)
+        low.0 (o.caller.named x (and_from around' plain low.1 parts.1))
     by (inr own) =
         let arrived = arrived_of o in
         let there = found (declared_variable program (variable_of x)) parts.1 in
         let p = own_place m o x (number_declared []) own there.is refl in
         let is = given_numbers m o x h in
         beside_telling (function_by v) (call_at arrived) (received_in (variables_of_block program i.head.number))
-        (words_for i) (own_word_of o x (number_declared []) p.place) x (all_beside m arrived o.all) p.among p.own refl is
-        (few is)
+        (words_for i) (own_word_of o x (number_declared []) p.place) x (all_beside m arrived o.all) p.among p.own refl
+        is (few is)
 
 given_arrays :
     {program : Y.Program} (m : Main program) {input : List ℕ} {acts : ℕ} {valued : Bool} {more b : ℕ} {a : Running}

@@ -1,5 +1,5 @@
--- The names of a block's numbers, which its frames tell: while words of the newest frame tell something, and while texts
--- wait; and that serial numbers have two words.
+-- The names of a block's numbers, which its frames tell: while words of the newest frame tell something, and while
+-- texts wait; and that serial numbers have two words.
 use Rattle.std.proofs.Common.{◌≡◌, inl, inr, ℕ, ◌+◌, ◌^◌, ◌<◌, ◌≤◌, List, ◌∷◌, Option, None, Bool, true, false}
 use Rattle.std.proofs.Common.{subst, arith}
 use Rattle.rv_meaning.specs.declared.instr.Instr.{Instr}

@@ -51,7 +51,7 @@ use Rattle.list_calls.proofs.VariablesPassed.{variables_passed}
 use Rattle.word_runs.specs.Words.{with_word}
 use Rattle.number_runs.specs.Knowledge.{HasLists, IsFree, KnowsGiven, KnowsNumbers, given_number, most_set}
 use Rattle.number_runs.specs.Knowledge.{KnowsConstants}
-use Rattle.number_runs.specs.Numbers.{Scope, are_arguments, are_numbers, argument_needs, argument_sets}
+use Rattle.number_runs.specs.Numbers.{Scope, are_arguments, are_numbers}
 use Rattle.number_runs.specs.Numbers.{arguments_need, arguments_set, bounds_known, call_needs, call_sets, gives_lists}
 use Rattle.number_runs.specs.Numbers.{is_argument, is_element, is_fixed, is_given, is_number, is_reference, is_test}
 use Rattle.number_runs.specs.Numbers.{is_variable, may_calculate, number_needs, number_sets, numbers_need}
@@ -63,7 +63,8 @@ use Rattle.number_runs.proofs.Arrays.{element_is, subscript_given}
 use Rattle.number_runs.proofs.Narrow.{flag_does, narrow_does, narrow_told, narrow_with_is, text_known, text_type_is}
 use Rattle.list_calls.proofs.ParametersPassed.{parameter_told, parameters_passed}
 use Rattle.number_runs.proofs.Received.{named_told, passable_told, stored_untold}
-use Rattle.number_runs.proofs.Variables.{Names, Passable, parameter_is, variable_is, ways_are, ways_many, ways_of, ways_stored}
+use Rattle.number_runs.proofs.Variables.{Names, Passable, parameter_is, variable_is, ways_are, ways_many, ways_of}
+use Rattle.number_runs.proofs.Variables.{ways_stored}
 use Rattle.number_runs.proofs.Turns.{telling_same}
 use Rattle.number_runs.proofs.Waiting.{numbers_wait, numbers_without, texts_without, texts_unlocated}
 use Rattle.number_runs.proofs.Based.{through_is}
@@ -174,7 +175,8 @@ name_free last serial signature all told free inside =
     (word_free (last + 1) signature all _
     (word_free (last + 2) (serial / 2 ^ 32) all _
     (word_free (last + 3) (serial % 2 ^ 32) all _
-    (word_free (last + 4) 0 all _ (word_free (last + 5) 1 all told free (omega (arith, inside))) (omega (arith, inside)))
+    (word_free (last + 4) 0 all _ (word_free (last + 5) 1 all told free (omega (arith, inside)))
+    (omega (arith, inside)))
     (omega (arith, inside)))
     (omega (arith, inside)))
     (omega (arith, inside)))

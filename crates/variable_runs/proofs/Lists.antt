@@ -39,7 +39,7 @@ use Rattle.block_runs.specs.Machines.{AreIn, IsImage, IsIn}
 use Rattle.program_runs.specs.Calls.{AreMade, Callee, act_index, begun_at, variables_index}
 use Rattle.program_runs.specs.Procedures.{beginning_for, layer_for}
 use Rattle.program_runs.proofs.Names.{name_comes, name_stands}
-use Rattle.program_runs.specs.Variables.{Declared, IsDeclared, generation_for, made_of}
+use Rattle.program_runs.specs.Variables.{Declared, generation_for, made_of}
 use Rattle.program_runs.proofs.Variables.{becomes_comes, made_becomes, variable_means}
 use Rattle.variable_runs.specs.Areas.{IsArea}
 use Rattle.variable_runs.specs.Lists.{AreAll, AreDeclared, AreListed, AreThose, Declares, all_made, behind_made}
@@ -77,7 +77,8 @@ next_stands w code p x φ φs known (inl is) = by (nat_lt (p.state.serials + 1) 
         (q : Bool) → nat_lt (p.state.serials + 1) (2 ^ 64) ≡ q →
         Stands w (behind_made w.parts φ x p) × IsImage w code (behind_made w.parts φ x p)
     by true e =
-        subst (λ q. Stands w q × IsImage w code q) (now_is w p x φ true is.initial e) (name_stands w code p x φ φs known is)
+        subst (λ q. Stands w q × IsImage w code q) (now_is w p x φ true is.initial e)
+        (name_stands w code p x φ φs known is)
     by false e =
         subst (λ q. Stands w q × IsImage w code q) (now_is w p x φ false is.initial e)
         (made_becomes (record { stands = known.0; image = known.1; is = is })).stands
@@ -103,11 +104,13 @@ next_comes w code e p numbers x φ φs c index f known (inl is) same l there =
         (λ b y. IsIn w (behind_made w.parts φ x p) numbers (index + size_of (constant_made e x.place x.declared)) b y)
     by true e' =
         subst (λ q. Reach code c f (services_of p) (c + size_of (constant_made e x.place x.declared)) (services_of q)
-        (λ b y. IsIn w q numbers (index + size_of (constant_made e x.place x.declared)) b y)) (now_is w p x φ true is.initial e')
+        (λ b y. IsIn w q numbers (index + size_of (constant_made e x.place x.declared)) b y))
+        (now_is w p x φ true is.initial e')
         (name_comes w code e p numbers x φ φs c index f known is (ltb-true _ (2 ^ 64) e') same l there)
     by false e' =
         subst (λ q. Reach code c f (services_of p) (c + size_of (constant_made e x.place x.declared)) (services_of q)
-        (λ b y. IsIn w q numbers (index + size_of (constant_made e x.place x.declared)) b y)) (now_is w p x φ false is.initial e')
+        (λ b y. IsIn w q numbers (index + size_of (constant_made e x.place x.declared)) b y))
+        (now_is w p x φ false is.initial e')
         (becomes_comes w code e p (with_made (made_of w.parts φ x) p) numbers x φ φs c index f known is
         (made_becomes (record { stands = known.0; image = known.1; is = is })) same l there)
 next_comes w code e p numbers x φ φs c index f known (inr is) same l there =
