@@ -1,15 +1,14 @@
 -- The name of what a parameter of the block itself stands for is found in its list, and passed on.
-use Rattle.std.proofs.Common.{◌≡◌, ℕ, ◌+◌, ◌*◌, ◌/◌, ◌^◌, ◌<◌, List, [], ◌∷◌, ◌++◌, length, Option, Some, Bool, true}
+use Rattle.std.proofs.Common.{◌≡◌, ℕ, ◌+◌, ◌*◌, ◌<◌, List, [], ◌∷◌, ◌++◌, length, Option, Some, Bool, true}
 use Rattle.std.proofs.Common.{refl, sym, ap, ◌∙◌, subst, arith}
 use Rattle.std.proofs.lemmas.Bool.{eq-eqb, le-leb}
 use Rattle.std.proofs.lemmas.List.{append_assoc}
-use Rattle.std.specs.Prelude.{ℤ, ◌%◌, cond, pos, unwrap_or, ◌&&◌, ◌==◌}
+use Rattle.std.specs.Prelude.{ℤ, cond, pos, unwrap_or, ◌&&◌, ◌==◌}
 use Rattle.rv_meaning.specs.declared.instr.ImmediateOp.TheVariants as Imm
 use Rattle.rv_meaning.specs.declared.instr.Instr.{Instr}
 use Rattle.rv_meaning.specs.declared.instr.Instr.TheVariants as I
 use Rattle.rv_meaning.specs.declared.instr.LoadKind.TheVariants as Load
 use Rattle.rv_meaning.specs.declared.instr.Register.{Register}
-use Rattle.rv_meaning.specs.Machine.{memory_size}
 use Rattle.rv_meaning.specs.Memory.{load}
 use Rattle.rv_meaning.specs.Words.{word}
 use Rattle.pli_typing.specs.TypedTree as Y
@@ -23,7 +22,7 @@ use Rattle.pli_coding.specs.Assembly.{Code, Item, Plain, size_of}
 use Rattle.pli_coding.specs.Environments.{Environment, no_declaration}
 use Rattle.pli_coding.specs.Expressions.{argument_place, refer_checked}
 use Rattle.pli_coding.specs.Frames.{argument_at, display, list_offset, list_place, own_offset}
-use Rattle.pli_coding.specs.Instructions.{add, immediate, is_immediate, load_word, plus, small, status_tested}
+use Rattle.pli_coding.specs.Instructions.{add, immediate, load_word, plus, small, status_tested}
 use Rattle.pli_coding.specs.Instructions.{store_word, tested_service}
 use Rattle.pli_coding.specs.Linking.{lower_part, upper_part}
 use Rattle.pli_coding.specs.Locating.{ListName, ListNumber, may_refer, number_of_parameter}
@@ -46,7 +45,7 @@ use Rattle.run_steps.proofs.Reach.{reach_then, reached_holds}
 use Rattle.run_steps.proofs.Reaching.{reach_moved}
 use Rattle.block_runs.specs.Machines.{IsIn}
 use Rattle.block_runs.proofs.Places.{IsFrame, inside_memory, word_in}
-use Rattle.block_runs.proofs.PointGrounds.{StandsIn, point_ground}
+use Rattle.block_runs.proofs.PointGrounds.{point_ground}
 use Rattle.program_runs.specs.Statements.{Block, IsAmong, IsBegun}
 use Rattle.expression_runs.specs.Values.{Setting}
 use Rattle.expression_runs.specs.Variables.{Spot}
@@ -61,8 +60,7 @@ use Rattle.word_runs.proofs.Words.{begun_telling}
 use Rattle.list_calls.specs.Arguments.{Passes, name_code}
 use Rattle.list_calls.specs.Lists.{Told, name_told}
 use Rattle.list_calls.proofs.ListGiving.{told_again, told_itself}
-use Rattle.list_calls.proofs.NamePassing.{Finds, HasNameAt, Signs, answered_regs, name_passed, number_regs}
-use Rattle.list_calls.proofs.NamePassing.{passing_code}
+use Rattle.list_calls.proofs.NamePassing.{Finds, Signs, answered_regs, name_passed, number_regs, passing_code}
 
 -- ---- a parameter of a block is one while words of its frame tell something
 
@@ -382,8 +380,8 @@ parameters_passed k x φ φs begun newest is =
           let code = k.block.call.code in
           let o' = told_again k told newest o in
           let here = o.later.layers in
-          let eq = coded k.block.environment taken all place count n x is.place is.declared is.numbered_so is.near is.own
-          in
+          let eq = coded k.block.environment taken all place count n x is.place is.declared is.numbered_so is.near
+          is.own in
           let whole = passing_code (name_loaded is.place) (signed_loaded a1 x.level is.place)
           (signed_loaded u1 x.level is.place) place count n in
           let l' = subst (Linked w.links code index) eq l in

@@ -15,7 +15,7 @@ use Rattle.pli_coding.specs.Images.{code_of, picture_of}
 use Rattle.pli_coding.specs.Linking.{links_of}
 use Rattle.well_formed_trees.specs.Blocks.{times}
 use Rattle.well_formed_trees.specs.Declarations.{SoundVariable}
-use Rattle.well_formed_trees.specs.Expressions.{IsCallable, Passes}
+use Rattle.well_formed_trees.specs.Expressions.{Passes}
 use Rattle.well_formed_trees.specs.Ranges.{IsFormatList}
 use Rattle.well_formed_trees.specs.References.{Designates, IsNumberScalar, IsScalar}
 use Rattle.well_formed_trees.specs.Surroundings.{Around, Returns, Table, Where}
@@ -26,7 +26,7 @@ use Rattle.run_steps.proofs.Linking.{linked_length}
 use Rattle.expression_runs.specs.Variables.{number_declared, whole}
 use Rattle.argument_runs.specs.Parameters.{parameter, parameter_declared}
 use Rattle.pli_headline.specs.Headline.{FitsMemory, parts}
-use Rattle.number_headlines.specs.EuclidRows.{called_with, divided_body, divided_formats, divided_main, divided_program}
+use Rattle.number_headlines.specs.EuclidRows.{divided_body, divided_formats, divided_main, divided_program}
 use Rattle.number_headlines.specs.EuclidRows.{divided_spot, euclid_body, euclid_procedure, euclid_spot, head_at}
 use Rattle.number_headlines.specs.Headlines.{IsNumberProgram}
 
@@ -200,20 +200,26 @@ main_sound = record {
       (
         (
           (euclid_procedure, refl, refl),
-          ((record {
-            procedure = euclid_procedure;
-            is = record {
-              found = refl;
-              level_is = refl;
-              kind = refl;
-              own = euclid_entry;
-              holder = main_entry;
-              outer = [];
-              entry = refl;
-              holder_around = inl (refl, refl);
-            };
-            passed = ((parameter_declared, refl, x_passes), ((parameter_declared, refl, y_passes), tt));
-          }, ((x_is, (tt, (tt, tt))), ((y_is, (tt, (tt, tt))), tt))), omega arith),
+          (
+            (
+              record {
+                procedure = euclid_procedure;
+                is = record {
+                  found = refl;
+                  level_is = refl;
+                  kind = refl;
+                  own = euclid_entry;
+                  holder = main_entry;
+                  outer = [];
+                  entry = refl;
+                  holder_around = inl (refl, refl);
+                };
+                passed = ((parameter_declared, refl, x_passes), ((parameter_declared, refl, y_passes), tt));
+              },
+              ((x_is, (tt, (tt, tt))), ((y_is, (tt, (tt, tt))), tt)),
+            ),
+            omega arith,
+          ),
         ),
         (
           (
@@ -266,20 +272,26 @@ euclid_sound = record {
       (
         (
           (euclid_procedure, refl, refl),
-          ((record {
-            procedure = euclid_procedure;
-            is = record {
-              found = refl;
-              level_is = refl;
-              kind = refl;
-              own = euclid_entry;
-              holder = main_entry;
-              outer = [];
-              entry = refl;
-              holder_around = inr (inl (refl, refl));
-            };
-            passed = ((parameter_declared, refl, b_passes), ((parameter_declared, refl, r_passes), tt));
-          }, ((b_is, (tt, (tt, tt))), ((r_is, (tt, (tt, tt))), tt))), omega arith),
+          (
+            (
+              record {
+                procedure = euclid_procedure;
+                is = record {
+                  found = refl;
+                  level_is = refl;
+                  kind = refl;
+                  own = euclid_entry;
+                  holder = main_entry;
+                  outer = [];
+                  entry = refl;
+                  holder_around = inr (inl (refl, refl));
+                };
+                passed = ((parameter_declared, refl, b_passes), ((parameter_declared, refl, r_passes), tt));
+              },
+              ((b_is, (tt, (tt, tt))), ((r_is, (tt, (tt, tt))), tt)),
+            ),
+            omega arith,
+          ),
         ),
         (
           (

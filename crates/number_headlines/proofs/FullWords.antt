@@ -1,7 +1,7 @@
 -- Variables of a block of the class: what they count for in AUTOMATIC storage, and that those which pass the limit on
 -- that end the run.
 use Rattle.std.proofs.Common.{◌≡◌, inl, ℕ, ◌+◌, ◌%◌, ◌^◌, ◌<◌, ◌≤◌, List, [], ◌∷◌, Bool, true, false}
-use Rattle.std.proofs.Common.{refl, sym, ap, ◌∙◌, subst, arith}
+use Rattle.std.proofs.Common.{refl, ap, ◌∙◌, arith}
 use Rattle.std.specs.Prelude.{cond, nat_le, nat_lt, pos, if◌then◌else◌}
 use Rattle.std.proofs.lemmas.Bool.{and_parts, leb-true}
 use Rattle.rv_meaning.specs.declared.instr.Instr.{Instr}
@@ -27,13 +27,12 @@ use Rattle.pli_coding.specs.Frames.{MemoryParts, last_place}
 use Rattle.storage_relation.proofs.Holders.{eqb-other}
 use Rattle.activation_relation.specs.Layers.{Layer, Point, services_of}
 use Rattle.activation_relation.specs.Points.{Stands, Surroundings}
-use Rattle.activation_relation.specs.Variables.{with_made}
 use Rattle.run_steps.specs.Items.{Linked}
 use Rattle.run_steps.proofs.Jumps.{back_of, front_of}
 use Rattle.run_steps.proofs.Linking.{size_append}
-use Rattle.run_steps.specs.Reach.{Family, Reach, cost, reached}
+use Rattle.run_steps.specs.Reach.{Family, cost, reached}
 use Rattle.run_steps.proofs.Reach.{reached_holds}
-use Rattle.block_runs.specs.Machines.{AreIn, IsImage, IsIn}
+use Rattle.block_runs.specs.Machines.{AreIn, IsImage}
 use Rattle.program_runs.specs.Initial.{Begins, MayBeMade}
 use Rattle.program_runs.specs.Variables.{Declared, generation_for}
 use Rattle.program_runs.proofs.Variables.{started_means}
@@ -290,7 +289,7 @@ later_over w code e around p numbers φ φs place index d ds has plain is next =
           ∙ next.means;
       over = λ c i f known paid l there.
           let r = next_comes w code e p numbers x φ φs c i f known (inl is) (refl, has.parts)
-              (front_of first rest l) there in
+          (front_of first rest l) there in
           over_then r
           (next.over (c + size_of first) (i + size_of first) (reached r)
           (next_stands w code p x φ φs known (inl is)) (omega (arith, paid, n))

@@ -1,7 +1,6 @@
 -- A block of the class that is called with a list of arguments: its variables are made, and what is known there.
 use Rattle.std.proofs.Common.{◌≡◌, ◌⊎◌, inl, inr, ℕ, suc, ◌+◌, ◌^◌, ◌<◌, ◌≤◌, List, [], ◌∷◌, length, Option, Some}
-use Rattle.std.proofs.Common.{Bool, true}
-use Rattle.std.proofs.Common.{false, refl, sym, ap, ◌∙◌, subst, arith}
+use Rattle.std.proofs.Common.{Bool, true, false, refl, sym, ap, ◌∙◌, subst, arith}
 use Rattle.std.specs.Prelude.{◌&&◌, ◌||◌, ◌==◌, nat_lt, slice_get, if◌then◌else◌}
 use Rattle.std.specs.List.{list_any}
 use Rattle.std.proofs.lemmas.Bool.{and_from, and_parts, eqb-true, ltb-true}
@@ -343,8 +342,7 @@ given_named {program} m {input} {acts} {valued} {more} {b} {a} {ns} {v} {level} 
         IsTelling (block_of_run program input acts v more (run_given o)) x
     by (inl low) =
         inner_list_telling (function_by v) (calls_from o) (call_of o) more o.point o.numbers o.passed x (begins m o)
-        low.0
-        (o.caller.named x (and_from around' plain low.1 parts.1))
+        low.0 (o.caller.named x (and_from around' plain low.1 parts.1))
     by (inr own) =
         let arrived = arrived_of o in
         let there = found (declared_variable program (variable_of x)) parts.1 in

@@ -52,7 +52,7 @@ use Rattle.list_calls.proofs.VariablesPassed.{variables_passed}
 use Rattle.word_runs.specs.Words.{with_word}
 use Rattle.number_runs.specs.Knowledge.{HasLists, IsFree, KnowsGiven, KnowsNumbers, given_number, most_set}
 use Rattle.number_runs.specs.Knowledge.{KnowsConstants}
-use Rattle.number_runs.specs.Numbers.{Scope, are_arguments, are_numbers, argument_needs, argument_sets}
+use Rattle.number_runs.specs.Numbers.{Scope, are_arguments, are_numbers}
 use Rattle.number_runs.specs.Numbers.{arguments_need, arguments_set, bounds_known, call_needs, call_sets, gives_lists}
 use Rattle.number_runs.specs.Numbers.{is_argument, is_element, is_fixed, is_given, is_number, is_reference, is_test}
 use Rattle.number_runs.specs.Numbers.{is_variable, may_calculate, number_needs, number_sets, numbers_need}

@@ -1,5 +1,5 @@
 -- A parameter of a block is one while words of its frame tell something, and while a place in a format list is in use.
-use Rattle.std.proofs.Common.{◌≡◌, inl, inr, ℕ, List, [], ◌∷◌, Option, sym, ap, ◌∙◌, subst}
+use Rattle.std.proofs.Common.{◌≡◌, inl, inr, ℕ, List, [], ◌∷◌, Option, subst}
 use Rattle.pli_serving.specs.ServiceState.{EditPlace}
 use Rattle.pli_coding.specs.Frames.{automatic_place}
 use Rattle.activation_relation.specs.FrameLaws.{with_waits}
@@ -147,4 +147,3 @@ passable_told k φ φs waits newest x is =
       named = named_told k φ φs waits newest x is.serial is.signature is.named;
       stored = one_told waits φ φs k.first is.serial is.signature is.stored;
     }
-
