@@ -54,7 +54,7 @@ main_told {program} m input acts past b =
 -- ---- while a place is in use
 
 -- an array of a block is one there
-array_placed :
+pub array_placed :
     (k : Block) (place : EditPlace) (x : Spot) (b : Bounds) → IsArray k x b → IsArray (placing place k) x b
 array_placed k place x b is =
     let h = is.known in

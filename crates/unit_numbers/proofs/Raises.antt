@@ -26,12 +26,14 @@ use Rattle.program_places.proofs.Procedures.{raise_routines}
 use Rattle.program_runs.specs.Calls.{left_over}
 use Rattle.program_runs.specs.Starts.{image_parts}
 use Rattle.program_runs.specs.Statements.{Block, Does, Outer, as_outer}
-use Rattle.expression_runs.specs.Assignments.{setting_of}
+use Rattle.expression_runs.specs.Assignments.{setting_around, setting_of}
 use Rattle.expression_runs.specs.Values.{OverflowComes}
 use Rattle.error_units.specs.Errors.{ErrorGoes, ErrorRoutines}
 use Rattle.error_units.proofs.Conditions as E
 use Rattle.error_units.proofs.Conditions.{condition_by, divide_without, error_system, overflow_without, subscript_by}
 use Rattle.error_units.proofs.Errors.{error_deep, error_runs}
+use Rattle.edit_runs.specs.Edits.{within}
+use Rattle.text_runs.proofs.Errors.{error_ends}
 use Rattle.operator_runs.specs.Divisors.{ZeroDivideComes}
 use Rattle.number_runs.specs.Knowledge.{Includes, KnowsCalls, KnowsJumps, KnowsPuts, KnowsRaises, KnowsSignals}
 use Rattle.number_runs.specs.Numbers.{Scope}
@@ -44,7 +46,7 @@ use Rattle.unit_runs.proofs.UnitRuns.{RaisesTo, overflow_returns, raise_returns}
 use Rattle.unit_runs.proofs.UnitVariables.{none_made}
 use Rattle.phase_runs.proofs.Signals.{codes_are, signal_by}
 use Rattle.nested_calls.specs.Nested.{parent_at}
-use Rattle.unit_numbers.specs.Calls.{has_unit}
+use Rattle.unit_numbers.specs.Calls.{has_jumps, has_unit, is_jumped_to}
 use Rattle.unit_numbers.proofs.Calls.{calls_of}
 use Rattle.unit_numbers.proofs.Divides.{deep_divide_ends, divide_returns}
 use Rattle.unit_numbers.proofs.Established.{InForce, Newest, in_force, list_placed, none_system}
@@ -54,7 +56,8 @@ use Rattle.unit_numbers.proofs.Outer.{main_saves, made_stacks}
 use Rattle.unit_numbers.proofs.Past.{past_like}
 use Rattle.unit_numbers.proofs.Puts.{settled_writes}
 use Rattle.unit_numbers.proofs.Raised.{Case, part_of, raise_setting, unit_at, unit_entered, unit_raised}
-use Rattle.unit_numbers.proofs.Scenes.{EachBody, IsAbove, IsAt, IsInside, Part, Rises, block_of, scope_of}
+use Rattle.unit_numbers.proofs.Scenes.{EachBody, IsAbove, IsAt, IsInside, Part, Rises, at_placed, block_of}
+use Rattle.unit_numbers.proofs.Scenes.{placed_outer, rises_above, scope_of}
 use Rattle.unit_numbers.proofs.Routines.{error_routines}
 use Rattle.unit_numbers.proofs.Units.{none_coded, unit_is}
 
@@ -311,19 +314,21 @@ raises_of once {program} m h ih more blocks c o os a each own rises =
 -- ---- what is written
 
 -- nothing for which there is a unit is raised there
-puts_of :
+held_puts :
     MarkedOnce → {program : Y.Program} (m : Main program) (h : Home) → IsHome' m h → (more blocks : ℕ) (c : Part)
-    (o : Outer) (os : List Outer) → IsAt m h more blocks c o os → (scope_of m c).puts ≡ true →
+    (o : Outer) (os : List Outer) → IsAt m h more blocks c o os → c.writes ≡ true →
+    not (has_unit C.Error (list_of m)) ≡ true → is_jumped_to c.caller c.unit (list_of m) ≡ true →
     KnowsPuts (scope_of m c) (block_of m h o os) (most_for program)
-puts_of once {program} m h ih more blocks c o os a puts =
-    let parts = and_parts c.writes (not (has_unit C.Error (list_of m))) puts in
-    let writes = parts.0 in
+held_puts once {program} m h ih more blocks c o os a writes errors held =
     let routines = raise_routines once program m.loadable in
     let inside = routines.linked.inside in
-    let none : (d : Condition) → not (c.writes && has_unit d (list_of m)) ≡ true →
+    let none : (d : Condition) →
+    not (c.writes && (is_jumped_to c.caller c.unit (list_of m) && has_unit d (list_of m))) ≡ true →
     IsSystem (force o.first.state.activations d) = λ d may.
     subst IsSystem (sym (a.forced d)) (none_system once m h.input h.acts h.past ih.known d
-    (subst (λ w. not (w && has_unit d (list_of m)) ≡ true) writes may)) in
+    (subst (λ q. not (q && has_unit d (list_of m)) ≡ true) held
+    (subst (λ w. not (w && (is_jumped_to c.caller c.unit (list_of m) && has_unit d (list_of m))) ≡ true) writes
+    may))) in
     settled_writes (scope_of m c) (block_of m h o os) (most_for program)
     (record {
       begun = a.begun;
@@ -332,7 +337,7 @@ puts_of once {program} m h ih more blocks c o os a puts =
       overflow = none C.FixedOverflow;
       divisor = none C.ZeroDivide;
       error = subst IsSystem (sym (a.forced C.Error))
-          (none_system once m h.input h.acts h.past ih.known C.Error parts.1);
+          (none_system once m h.input h.acts h.past ih.known C.Error errors);
       acts = ih.few;
       few = omega (arith, inside);
       variables = a.variables;
@@ -343,6 +348,66 @@ puts_of once {program} m h ih more blocks c o os a puts =
       wordless = refl;
       lists = lists_known program (block_of m h o os) m.memory a.told;
     })
+
+-- what is raised there comes to what it means, and no jump of a unit lands in this block
+free_puts :
+    MarkedOnce → {program : Y.Program} (m : Main program) (h : Home) → IsHome' m h → (more blocks : ℕ) (c : Part)
+    (o : Outer) (os : List Outer) → IsAt m h (suc more) blocks c o os → EachBody m more →
+    (has_jumps (list_of m) ≡ true → IsAbove m h os) → not (has_unit C.Error (list_of m)) ≡ true →
+    KnowsPuts (scope_of m c) (block_of m h o os) (most_for program)
+free_puts once {program} m h ih more blocks c o os a each above errors =
+    let k = block_of m h o os in
+    let routines = error_routines once program m.loadable in
+    let inside = routines.routines.linked.inside in
+    let system = subst IsSystem (sym (a.forced C.Error))
+    (none_system once m h.input h.acts h.past ih.known C.Error errors) in
+    record {
+      numbers = λ words may place labels line.
+          let o' = placed_outer place o in
+          let a' = at_placed a place in
+          let rises = rises_above m h (block_of m h o' os) [] above in
+          record {
+            begun = a'.begun;
+            overflow = λ raises.
+                overflow_at once m h ih more blocks c o' os a' each [] rises words [] (λ label e. e) line
+                (in_force once m h.input h.acts h.past ih.known C.FixedOverflow);
+            divisor = λ raises.
+                divide_at once m h ih more blocks c o' os a' each [] rises words [] (λ label e. e) line
+                (in_force once m h.input h.acts h.past ih.known C.ZeroDivide);
+            subscript = λ raises.
+                subscript_by (raise_setting m h o' os words [] line) routines
+                (error_at once m h ih more blocks c o' os a' each [] rises words [] (λ label e. e) line routines);
+            variables = a'.variables;
+            arrays = λ raises. a'.arrays;
+            narrows = λ may'. a'.narrows;
+            parameters = λ x is. absurd (cc is);
+            texts = λ may'. absurd (cc may');
+            given = λ may'. absurd (cc may');
+            located = λ may'. absurd (cc may');
+            codes = λ may'. a'.code;
+            functions = λ level n is. absurd (cc is);
+          };
+      error = λ words may place labels line.
+          error_ends (List ℕ) (within place (setting_around words k labels line (most_for program))) (record {
+            routines = routines.routines;
+            raises = routines.error;
+            error = system;
+            acts = ih.few;
+            most = omega (arith, inside);
+          });
+      lists = lists_known program k m.memory a.told;
+    }
+
+puts_of :
+    MarkedOnce → {program : Y.Program} (m : Main program) (h : Home) → IsHome' m h → (more blocks : ℕ) (c : Part)
+    (o : Outer) (os : List Outer) → IsAt m h (suc more) blocks c o os → EachBody m more →
+    (is_jumped_to c.caller c.unit (list_of m) ≡ false → has_jumps (list_of m) ≡ true → IsAbove m h os) →
+    (scope_of m c).puts ≡ true → KnowsPuts (scope_of m c) (block_of m h o os) (most_for program)
+puts_of once {program} m h ih more blocks c o os a each above puts =
+    let parts = and_parts c.writes (not (has_unit C.Error (list_of m))) puts in
+    by_decision (is_jumped_to c.caller c.unit (list_of m))
+    (λ held. held_puts once m h ih (suc more) blocks c o os a parts.0 parts.1 held)
+    (λ free. free_puts once m h ih more blocks c o os a each (above free) parts.1)
 
 -- ---- jumps out
 
@@ -401,18 +466,20 @@ far_of once {program} m h ih more blocks c o os a inner above label among ls lin
 
 jumps_of :
     MarkedOnce → {program : Y.Program} (m : Main program) (h : Home) → IsHome' m h → (more blocks : ℕ) (c : Part)
-    (o : Outer) (os : List Outer) → IsAt m h more blocks c o os → (c.unit ≡ true → IsInside m c o × IsAbove m h os) →
+    (o : Outer) (os : List Outer) → IsAt m h more blocks c o os →
+    (c.unit ≡ true → IsInside m c o × (has_jumps (list_of m) ≡ true → IsAbove m h os)) →
     (own : List Label) → KnowsJumps (scope_of m c) (block_of m h o os) own left_over
 jumps_of once {program} m h ih more blocks c o os a inner own labels level label line index includes out less =
     let there = (level == c.caller.level) && is_among label (labels_in (list_of m)) in
-    let q = and_parts c.unit there out in
+    let q = and_parts c.unit (has_jumps (list_of m) && there) out in
     let i = inner q.0 in
-    let p = and_parts (level == c.caller.level) (is_among label (labels_in (list_of m))) q.1 in
+    let j = and_parts (has_jumps (list_of m)) there q.1 in
+    let p = and_parts (level == c.caller.level) (is_among label (labels_in (list_of m))) j.1 in
     let same = eqb-true level c.caller.level p.0 ∙ ap (λ (x : Y.BlockHead). x.level) i.0.caller in
     subst (λ n. Linked (links_for program) (linked_code (code_for program)) index
     (stmt_code o.environment none_taken (Y.Goto n label line)) →
     Does (block_of m h o os) labels (Y.Goto n label line) index left_over) (sym same)
-    (λ l. far_of once m h ih more blocks c o os a i.0 i.1 label p.1 labels line index less l)
+    (λ l. far_of once m h ih more blocks c o os a i.0 (i.1 j.0) label p.1 labels line index less l)
 
 -- ---- all of it
 
@@ -426,9 +493,11 @@ pub record Knows (program : Y.Program) (s : Scope) (k : Block) (own : List Label
 pub knows_of :
     MarkedOnce → {program : Y.Program} (m : Main program) (h : Home) → IsHome' m h → (more blocks : ℕ) (c : Part)
     (o : Outer) (os : List Outer) → IsAt m h (suc more) blocks c o os →
-    (c.unit ≡ true → IsInside m c o × IsAbove m h os) → EachBody m more → (own : List Label) →
-    Rises m h (block_of m h o os) own → Knows program (scope_of m c) (block_of m h o os) own
-knows_of once m h ih more blocks c o os a inner each own rises =
+    (c.unit ≡ true → IsInside m c o × (has_jumps (list_of m) ≡ true → IsAbove m h os)) →
+    (is_jumped_to c.caller c.unit (list_of m) ≡ false → has_jumps (list_of m) ≡ true → IsAbove m h os) →
+    EachBody m more → (own : List Label) → Rises m h (block_of m h o os) own →
+    Knows program (scope_of m c) (block_of m h o os) own
+knows_of once m h ih more blocks c o os a inner above each own rises =
     record {
       raises = raises_of once m h ih more blocks c o os a each own rises;
       calls = calls_of once m h ih more blocks c o os a each own rises;
@@ -436,5 +505,5 @@ knows_of once m h ih more blocks c o os a inner each own rises =
       signals = λ labels condition line index includes may fits l.
           signal_at once m h ih more blocks c o os a each own rises labels includes condition line index
           (record { fits = fits; linked = l });
-      puts = λ may. puts_of once m h ih (suc more) blocks c o os a may;
+      puts = λ may. puts_of once m h ih more blocks c o os a each above may;
     }
