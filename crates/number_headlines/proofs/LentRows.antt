@@ -194,20 +194,26 @@ main_sound = record {
   statements = (
     (
       (euclid_procedure, refl, refl),
-      ((record {
-        procedure = euclid_procedure;
-        is = record {
-          found = refl;
-          level_is = refl;
-          kind = refl;
-          own = euclid_entry;
-          holder = main_entry;
-          outer = [];
-          entry = refl;
-          holder_around = inl (refl, refl);
-        };
-        passed = ((parameter_declared, refl, x_passes), ((parameter_declared, refl, y_passes), tt));
-      }, ((x_is, (tt, (tt, tt))), ((y_is, (tt, (tt, tt))), tt))), omega arith),
+      (
+        (
+          record {
+            procedure = euclid_procedure;
+            is = record {
+              found = refl;
+              level_is = refl;
+              kind = refl;
+              own = euclid_entry;
+              holder = main_entry;
+              outer = [];
+              entry = refl;
+              holder_around = inl (refl, refl);
+            };
+            passed = ((parameter_declared, refl, x_passes), ((parameter_declared, refl, y_passes), tt));
+          },
+          ((x_is, (tt, (tt, tt))), ((y_is, (tt, (tt, tt))), tt)),
+        ),
+        omega arith,
+      ),
     ),
     (
       (
@@ -258,20 +264,26 @@ euclid_sound = record {
       (
         (
           (euclid_procedure, refl, refl),
-          ((record {
-            procedure = euclid_procedure;
-            is = record {
-              found = refl;
-              level_is = refl;
-              kind = refl;
-              own = euclid_entry;
-              holder = main_entry;
-              outer = [];
-              entry = refl;
-              holder_around = inr (inl (refl, refl));
-            };
-            passed = ((parameter_declared, refl, b_passes), ((parameter_declared, refl, r_passes), tt));
-          }, ((b_is, (tt, (tt, tt))), ((r_is, (tt, (tt, tt))), tt))), omega arith),
+          (
+            (
+              record {
+                procedure = euclid_procedure;
+                is = record {
+                  found = refl;
+                  level_is = refl;
+                  kind = refl;
+                  own = euclid_entry;
+                  holder = main_entry;
+                  outer = [];
+                  entry = refl;
+                  holder_around = inr (inl (refl, refl));
+                };
+                passed = ((parameter_declared, refl, b_passes), ((parameter_declared, refl, r_passes), tt));
+              },
+              ((b_is, (tt, (tt, tt))), ((r_is, (tt, (tt, tt))), tt)),
+            ),
+            omega arith,
+          ),
         ),
         (
           (

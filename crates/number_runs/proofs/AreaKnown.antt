@@ -84,7 +84,8 @@ all_held w code c p numbers h =
 pub held_place :
     (w : Surroundings) (code : List Instr) (c : Callee) (p : Point) (numbers : ℕ → ℕ) (x : Spot)
     (d : Y.DeclaredVariable) → HasAreas w code c p numbers →
-    (x.block ≡ c.environment.block) × (x.level ≡ c.environment.level) → is_based d ≡ false → declared_variable c.environment.program (variable_of x) ≡ Some d →
+    (x.block ≡ c.environment.block) × (x.level ≡ c.environment.level) → is_based d ≡ false →
+    declared_variable c.environment.program (variable_of x) ≡ Some d →
     IsOwn c
     (word_made c.environment
     (fixed_size c.environment.level 0
