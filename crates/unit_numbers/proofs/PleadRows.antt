@@ -211,7 +211,7 @@ write_sound = record {
             (
               (
                 (omega arith, omega arith),
-                ((omega arith, omega arith), (omega arith, (write_number, (at_write, (tt, (tt, tt)))))),
+                (omega arith, (write_number, (at_write, (tt, (tt, tt))))),
               ),
               tt,
             ),
@@ -338,6 +338,7 @@ flows = tt
 unfoldable values : Unit {0}
 unfolding V.number V.bit V.designated V.located V.numbers V.variable_designated V.part_designated V.stored_value
     R.or_error R.demanded R.value_of R.raised R.unit_run R.error R.error_unit_run P.element_stored M.assigned
+    V.computational
 values = tt
 
 unfoldable calls : Unit {0}
