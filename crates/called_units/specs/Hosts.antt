@@ -1,5 +1,5 @@
--- The block of a unit that is raised in a block which was entered since the unit's own block, its host, established it.
--- It has that block's variables of every type, and its static ancestors.
+-- The block of a unit that is raised in a block which was entered since the unit's own block, its host, established
+-- it. It has that block's variables of every type, and its static ancestors.
 use Rattle.std.specs.Prelude.{ℕ, suc, ◌<◌, ◌≡◌}
 use Rattle.pli_typing.specs.TypedTree as Y
 use Rattle.pli_typing.specs.Signatures.{Bounds}

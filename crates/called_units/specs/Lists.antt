@@ -1,5 +1,5 @@
--- Lists of procedures, functions, begin blocks and units whose statements do what they mean through phases: ON, ON with
--- SYSTEM and REVERT stand anywhere in them.
+-- Lists of procedures, functions, begin blocks and units whose statements do what they mean through phases: ON, ON
+-- with SYSTEM and REVERT stand anywhere in them.
 use Rattle.std.specs.Prelude.{ℕ, List, [], ◌++◌}
 use Rattle.pli_typing.specs.TypedTree as Y
 use Rattle.pli_meaning.specs.Executing.{labels_in}

@@ -1,6 +1,7 @@
--- Where ERROR comes to what it means, so does a condition without a unit, which raises it, and so do a subscript outside
--- its bounds, SIGNAL ERROR, and the end of a function without a value.
-use Rattle.std.proofs.Common.{◌≡◌, ℕ, suc, ◌+◌, ◌*◌, ◌^◌, ◌<◌, ◌≤◌, List, [], ◌∷◌, ◌++◌, Some, None, true, false, refl}
+-- Where ERROR comes to what it means, so does a condition without a unit, which raises it, and so do a subscript
+-- outside its bounds, SIGNAL ERROR, and the end of a function without a value.
+use Rattle.std.proofs.Common.{◌≡◌, inr, ℕ, suc, ◌+◌, ◌*◌, ◌^◌, ◌<◌, ◌≤◌, List, [], ◌∷◌, ◌++◌, Some, None, true}
+use Rattle.std.proofs.Common.{false, refl}
 use Rattle.std.proofs.Common.{sym, ap, ◌∙◌, subst, arith, lit<, add-one}
 use Rattle.std.proofs.lemmas.Bool.{lt-ltb}
 use Rattle.std.specs.Prelude.{Option, pos, ◌==◌}
@@ -21,6 +22,7 @@ use Rattle.pli_meaning.specs.StorageState.{Activation, BlockUnit, OnUnit, State,
 use Rattle.pli_meaning.specs.World.{counted, raising}
 use Rattle.pli_serving.specs.ActsAndEnds as W
 use Rattle.pli_serving.specs.Answers.{Done}
+use Rattle.pli_serving.specs.ServiceState.{Entry}
 use Rattle.pli_serving.specs.OnUnits as U
 use Rattle.pli_coding.specs.Allocating.{act_code}
 use Rattle.pli_coding.specs.Arithmetic as A
@@ -73,7 +75,8 @@ use Rattle.expression_runs.proofs.Raises.{coded, conditioned, error_comes, raise
 use Rattle.begin_runs.proofs.Begins.{out_of_all}
 use Rattle.element_runs.specs.Subscripts.{SubscriptComes}
 use Rattle.operator_runs.specs.Divisors.{ZeroDivideComes}
-use Rattle.text_runs.specs.Texts.{error_aims}
+use Rattle.text_runs.specs.Texts.{ErrorComes, error_aims}
+use Rattle.text_runs.specs.Waiting.{over}
 use Rattle.unit_runs.specs.Changing.{Past, after, past_point}
 use Rattle.unit_runs.specs.Raised.{raise_aims}
 use Rattle.unit_runs.proofs.Establishing.{condition_is, number_small}
@@ -275,7 +278,8 @@ pub overflow_without :
     ErrorGoes (Unit {0}) k r → IsSystem (force k.block.first.state.activations C.FixedOverflow) →
     k.block.call.surroundings.acts + 1 < 2 ^ 64 → 18 < k.most → OverflowComes k
 overflow_without k r goes system acts most =
-    overflow_by k (condition_by k r goes C.FixedOverflow system acts most fixed_overflow_code (omega arith, omega arith))
+    overflow_by k
+    (condition_by k r goes C.FixedOverflow system acts most fixed_overflow_code (omega arith, omega arith))
 
 -- behind a raise of ZERODIVIDE an expression goes on with 0
 pub divide_by : (k : Setting) → RaisesTo k C.ZeroDivide zero_divide_code → ZeroDivideComes k
@@ -366,6 +370,29 @@ pub subscript_by :
     ErrorGoes (Unit {0}) k r → SubscriptComes k
 subscript_by k r goes p numbers c index f o line l paid there =
     jumped_to k r goes subscript_code (omega arith, omega arith) p numbers c index f o line l paid there
+
+-- the status of a service, while texts wait
+pub status_by :
+    (X : Type 0) (k : Setting) (r : ErrorRoutines k.block.call.surroundings.links k.block.call.code) →
+    ((entries : List Entry) → ErrorGoes X (over entries k) r) → ErrorComes X k
+status_by X k r goes entries p numbers c index n f o line codes l paid there =
+    let w = k.block.call.surroundings in
+    let h = point_frame o.stands o.image in
+    let far = r.routines.linked.inside in
+    let near = r.routines.linked.small' in
+    comes_map (error_aims X (over entries k) p.state.world.acts) (error_aims X k p.state.world.acts) refl
+    (R.error {R = X} k.around n w.acts p.state)
+    (λ c' f' v' x s q. absurd q)
+    (λ c' f' v' height label s q. record { to = inr (out_of_all q) })
+    (λ c' f' v' x s q. absurd q)
+    (onward (error_closed X (over entries k) p.state.world.acts)
+    (jump_piece {t = λ j. 0} {rs = coded n} c (c + 2) f RaiseError (r.routines.at + 8) (omega arith) r.error
+    (omega (arith, far, near))
+    (record { reserved_stay = λ y u. refl; known_stay = λ b y u q. q; set = λ y u. refl }) l
+    (λ b. known_in h (there b).0 ((there b).1, tt)))
+    (λ g at.
+    goes entries p numbers (c + 2) n g o line codes (omega (arith, paid))
+    (λ b. (in_known h o.image.parts (at b), (at b).holds.regs.0))))
 
 -- ---- SIGNAL ERROR
 

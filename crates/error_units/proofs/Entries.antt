@@ -1,6 +1,7 @@
--- The block of ERROR's unit is entered from a machine whose return register is told nothing of: where the unit goes back
--- services keep, and its frame isn't told of it.
-use Rattle.std.proofs.Common.{◌≡◌, ℕ, ◌+◌, ◌*◌, ◌^◌, ◌<◌, ◌≤◌, List, [], ◌∷◌, ◌++◌, length, Bool, refl, sym, ap, ◌∙◌, subst}
+-- The block of ERROR's unit is entered from a machine whose return register is told nothing of: where the unit goes
+-- back services keep, and its frame isn't told of it.
+use Rattle.std.proofs.Common.{◌≡◌, ℕ, ◌+◌, ◌*◌, ◌^◌, ◌<◌, ◌≤◌, List, [], ◌∷◌, ◌++◌, length, Bool, refl, sym, ap}
+use Rattle.std.proofs.Common.{◌∙◌, subst}
 use Rattle.std.proofs.Common.{◌-◌, append_assoc, arith}
 use Rattle.std.specs.Prelude.{pos}
 use Rattle.rv_meaning.specs.declared.instr.Instr.{Instr}
@@ -21,7 +22,8 @@ use Rattle.storage_relation.specs.Stored.{IsClear}
 use Rattle.storage_relation.proofs.Making.{same_held}
 use Rattle.activation_relation.specs.Chains.{HasParent, frame_at}
 use Rattle.activation_relation.specs.FrameLaws.{AreWords}
-use Rattle.activation_relation.specs.Frames.{FramesStand, GoesBack, IsLaid, Stores, frame_stores, frame_under, lower_end}
+use Rattle.activation_relation.specs.Frames.{FramesStand, GoesBack, IsLaid, Stores, frame_stores, frame_under}
+use Rattle.activation_relation.specs.Frames.{lower_end}
 use Rattle.activation_relation.specs.Frames.{place_from, stored, upper_top, words_from}
 use Rattle.activation_relation.specs.Owned.{AreWithin}
 use Rattle.activation_relation.specs.Layers.{Layer, Point, now, services_of}

@@ -1,5 +1,5 @@
--- A raise of ERROR finds the unit in force: from its routine, through an act, to the unit's first instruction. The unit
--- goes on with the end of the run.
+-- A raise of ERROR finds the unit in force: from its routine, through an act, to the unit's first instruction. The
+-- unit goes on with the end of the run.
 use Rattle.std.proofs.Common.{◌≡◌, ℕ, suc, ◌+◌, ◌-◌, ◌*◌, ◌^◌, ◌<◌, ◌≤◌, List, [], ◌∷◌, ◌++◌, length, Some, false}
 use Rattle.std.proofs.Common.{refl, ap, ◌∙◌, arith, lit<, add-one}
 use Rattle.std.proofs.lemmas.Bool.{lt-ltb}

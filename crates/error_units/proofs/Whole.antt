@@ -1,7 +1,8 @@
 -- The laws, put together.
+use Rattle.std.proofs.Common.{ℕ, List}
 use Rattle.error_units.specs.Errors.{ErrorsAround, ErrorsGo}
 use Rattle.error_units.proofs.Conditions.{condition_by, divide_without, end_by, error_system, overflow_without}
-use Rattle.error_units.proofs.Conditions.{signal_by, subscript_by}
+use Rattle.error_units.proofs.Conditions.{signal_by, status_by, subscript_by}
 use Rattle.error_units.proofs.Errors.{error_deep, error_runs}
 
 pub errors_go : ErrorsGo
@@ -19,6 +20,7 @@ errors_around =
       overflow = λ k r goes only paid. overflow_without k r goes only paid.acts paid.most;
       divisor = λ k r goes only paid. divide_without k r goes only paid.acts paid.most;
       subscript = subscript_by;
+      status = λ k r goes. status_by (List ℕ) k r goes;
       signal = signal_by;
       function = end_by;
     }

@@ -1,6 +1,7 @@
--- ERROR while a unit of the program is in force for it: its unit runs, and behind that the run ends, unless the unit is
--- left by a jump. (X3.53-1976, chapter 6, ERROR.)
+-- ERROR while a unit of the program is in force for it: its unit runs, and behind that the run ends, unless the
+-- unit is left by a jump. (X3.53-1976, chapter 6, ERROR.)
 use Rattle.std.specs.Prelude.{ℕ, ◌+◌, ◌*◌, ◌^◌, ◌<◌, ◌≤◌, ◌≡◌, List, [], false}
+use Rattle.pli_serving.specs.ServiceState.{Entry}
 use Rattle.rv_meaning.specs.Machine.{value}
 use Rattle.rv_meaning.specs.declared.instr.Instr.{Instr}
 use Rattle.pli_language.specs.declared.condition.Condition.{Condition}
@@ -29,7 +30,8 @@ use Rattle.expression_runs.specs.Values.{OverflowComes, Setting}
 use Rattle.element_runs.specs.Subscripts.{SubscriptComes}
 use Rattle.jump_runs.specs.Functions.{EndDoes, IsFunctionList, behind_list}
 use Rattle.operator_runs.specs.Divisors.{ZeroDivideComes}
-use Rattle.text_runs.specs.Texts.{error_aims}
+use Rattle.text_runs.specs.Texts.{ErrorComes, error_aims}
+use Rattle.text_runs.specs.Waiting.{over}
 use Rattle.unit_runs.specs.Raised.{IsRaised, IsRaisedAt, Standing, UnitDoes, raise_aims}
 
 -- where the routines stand
@@ -38,13 +40,13 @@ pub record ErrorRoutines (links : Links) (code : List Instr) : Type 0 where
   pub error : place_of links RaiseError ≡ 4 * (routines.at + 8)
   pub end : place_of links ErrorEnd ≡ 4 * (routines.at + 16)
 
--- from the first instruction of ERROR's routine, with a code in a1, the run ends or comes to where the unit jumps, as it
--- means
+-- from the first instruction of ERROR's routine, with a code in a1, the run ends or comes to where the unit jumps,
+-- as it means
 abbrev pub ErrorGoes :
     (X : Type 0) → (k : Setting) → ErrorRoutines k.block.call.surroundings.links k.block.call.code → Type 0
 ErrorGoes X k r =
     (p : Point) (numbers : ℕ → ℕ) (credits code : ℕ) (f : Family) → IsAmong k.block numbers p →
-    p.control.line ≡ k.around.line → (0 < code) × (code < 2 ^ 16) → credits + k.most ≤ cost k.block.call.code →
+    p.control.line ≡ k.around.line → (0 < code) × (code < 2 ^ 16) → credits + k.most ≤ cost k.block.call.code + 2 →
     ((b : Base) →
     IsIn k.block.call.surroundings p numbers (r.routines.at + 8) b (f b) × (value (f b).machine a1 ≡ code)) →
     Comes k.block.call.code credits f (services_of p) (error_aims X k p.state.world.acts)
@@ -109,6 +111,10 @@ pub record ErrorsAround : Type 0 where
   pub subscript :
       (k : Setting) (r : ErrorRoutines k.block.call.surroundings.links k.block.call.code) →
       ErrorGoes (Unit {0}) k r → SubscriptComes k
+  -- a service's status, if ERROR comes to what it means whatever texts wait
+  pub status :
+      (k : Setting) (r : ErrorRoutines k.block.call.surroundings.links k.block.call.code) →
+      ((entries : List Entry) → ErrorGoes (List ℕ) (over entries k) r) → ErrorComes (List ℕ) k
   -- SIGNAL ERROR
   pub signal :
       (k : Block) (labels : List Label) (line index left' most : ℕ)

@@ -7,7 +7,8 @@ pub fn errors_go()
     ensures { ErrorsGo }
 {}
 
-/// So does what raises it: a condition without a unit, a subscript outside its bounds, SIGNAL, a function without a value.
+/// So does what raises it: a condition without a unit, a subscript outside its bounds, SIGNAL, a function without a
+/// value.
 pub fn errors_around()
     ensures { ErrorsAround }
 {}

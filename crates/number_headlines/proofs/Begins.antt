@@ -1,13 +1,12 @@
 -- What the variables of a program's block begin with is told of its static data: its code names their lists.
 use Rattle.std.proofs.Common.{◌≡◌, ◌⊎◌, inl, inr, ℕ, suc, List, [], ◌∷◌, ◌++◌, length, Bool, true, false, Option, Some}
 use Rattle.std.proofs.Common.{refl, sym, ap, ◌∙◌, subst}
-use Rattle.std.specs.Prelude.{◌&&◌, ◌||◌, ◌==◌, cond, if◌then◌else◌, pos}
+use Rattle.std.specs.Prelude.{◌||◌, ◌==◌, cond, if◌then◌else◌, pos}
 use Rattle.std.proofs.lemmas.Bool.{and_parts, or_cases}
-use Rattle.rv_meaning.specs.declared.instr.Instr.{Instr}
 use Rattle.pli_typing.specs.TypedTree as Y
 use Rattle.pli_meaning.specs.DeclaredShapes.{head_of, procedure_numbered, variables_of_block}
 use Rattle.pli_coding.specs.Allocating.{act_code}
-use Rattle.pli_coding.specs.Assembly.{Code, DataPlace, Datum, InitialValues, Mark, OffsetOf, ProcedureEntry}
+use Rattle.pli_coding.specs.Assembly.{Code, Datum, InitialValues}
 use Rattle.pli_coding.specs.Entries.{adjustable_made, arguments_copied, automatic_made, block_entered, constant_made}
 use Rattle.pli_coding.specs.Entries.{frame_begun, list_kept, variables_code, variables_made}
 use Rattle.pli_coding.specs.Environments.{Environment, none_taken}
@@ -20,7 +19,7 @@ use Rattle.pli_coding.specs.Locating.{own_place, table_number}
 use Rattle.pli_coding.specs.Procedures.{procedure_ended, procedure_environment, procedure_of_block}
 use Rattle.pli_coding.specs.Procedures.{procedures_code, routines_code}
 use Rattle.pli_coding.specs.Registers.{a0, a1, a2, a3, u5}
-use Rattle.pli_coding.specs.StaticData.{PlacedDatum, static_data}
+use Rattle.pli_coding.specs.StaticData.{static_data}
 use Rattle.pli_coding.specs.StaticForms.{initial_datum}
 use Rattle.pli_coding.specs.Statements.{block_held, block_words, stmts_code}
 use Rattle.code_marks.proofs.DataOnce.{placed_same}
@@ -36,7 +35,7 @@ use Rattle.initial_headlines.proofs.Told.{initial_told}
 use Rattle.number_runs.specs.Numbers.{is_parameter}
 use Rattle.number_runs.specs.Variables.{EachBegins, are_known, is_any, is_declared}
 use Rattle.number_runs.proofs.Declared.{makeable, of_any, starts}
-use Rattle.number_runs.proofs.Initial.{IsOneList, Starts}
+use Rattle.number_runs.proofs.Initial.{Starts}
 use Rattle.number_runs.proofs.Variables.{parameter_declared_is}
 use Rattle.number_headlines.specs.Programs.{are_all_known}
 use Rattle.number_headlines.proofs.Tables.{block_known}

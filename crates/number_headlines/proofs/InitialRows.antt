@@ -19,7 +19,7 @@ use Rattle.well_formed_trees.specs.Blocks.{times}
 use Rattle.well_formed_trees.specs.Declarations.{SoundVariable}
 use Rattle.well_formed_trees.specs.Expressions.{SoundNumber}
 use Rattle.well_formed_trees.specs.Ranges.{IsFormatList}
-use Rattle.well_formed_trees.specs.References.{Designates, IsNumberScalar, IsScalar, IsTextScalar}
+use Rattle.well_formed_trees.specs.References.{Designates, IsScalar, IsTextScalar}
 use Rattle.well_formed_trees.specs.Statements.{SoundStmt}
 use Rattle.well_formed_trees.specs.Surroundings.{Around, IsDeclared, Returns, Table, Where}
 use Rattle.well_formed_trees.specs.WellFormed.{AreNested, AreNumbered, DeclaresSound, IsBehind, IsEntry, IsWellFormed}

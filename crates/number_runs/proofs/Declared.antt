@@ -1,10 +1,9 @@
 -- What is so of each variable that the class lets a block declare, a scalar or an array: what it takes, and that it can
 -- be made.
-use Rattle.std.proofs.Common.{◌≡◌, ◌⊎◌, inl, inr, ℕ, zero, suc, ◌+◌, ◌*◌, ◌<◌, ◌≤◌, List, [], None, true}
+use Rattle.std.proofs.Common.{◌≡◌, ◌⊎◌, inl, inr, ℕ, ◌+◌, ◌*◌, ◌<◌, ◌≤◌, List, [], None, true}
 use Rattle.std.proofs.Common.{◌^◌, Bool, false, refl, sym, ap, subst, arith}
 use Rattle.std.specs.Prelude.{◌%◌, ℤ, negsuc, pos, ◌-ℤ◌, ◌+ℤ◌, ◌||◌, cond, int_le, nat_le, nat_lt}
-use Rattle.std.proofs.lemmas.Bool.{and_parts, lt-ltb, ltb-true, or_cases}
-use Rattle.std.proofs.lemmas.Nat.{pow_pos}
+use Rattle.std.proofs.lemmas.Bool.{and_parts, ltb-true, or_cases}
 use Rattle.std.proofs.lemmas.Bool.Decides.{nat_tests}
 use Rattle.std.proofs.lemmas.Int.{ints}
 use Rattle.pli_language.specs.Tree as T

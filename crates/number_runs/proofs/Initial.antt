@@ -1,7 +1,7 @@
 -- What INITIAL gives to variables that the class admits: each value fits its leaf, and one list has them all.
-use Rattle.std.proofs.Common.{◌≡◌, ◌⊎◌, inl, inr, ℕ, ◌^◌, ◌<◌, ◌≤◌, List, [], ◌∷◌, length, None, Some, true}
+use Rattle.std.proofs.Common.{◌≡◌, ◌⊎◌, inl, inr, ◌^◌, ◌≤◌, List, [], ◌∷◌, length, None, Some, true}
 use Rattle.std.proofs.Common.{refl, arith}
-use Rattle.std.specs.Prelude.{◌&&◌, ℤ, nat_lt, pos}
+use Rattle.std.specs.Prelude.{◌&&◌, nat_lt, pos}
 use Rattle.std.proofs.lemmas.Bool.{and_parts, ltb-true}
 use Rattle.pli_language.specs.Tree as T
 use Rattle.pli_typing.specs.Signatures.{Bounds}

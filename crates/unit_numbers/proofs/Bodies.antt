@@ -176,7 +176,8 @@ each_body once {program} m (suc more) h blocks c o os ih e above =
           (omega (arith, words)))
           e.part.placed;
       error = λ line r.
-          error_at once m h ih more blocks c o os a each [] (rises_above m h (block_of m h o os) [] above) 0 []
+          error_at (Unit {0}) once m h ih more blocks c o os a each [] (rises_above m h (block_of m h o os) [] above) 0
+          []
           (λ label among. among) line r;
     }
 

@@ -37,3 +37,4 @@ pub mod TallyRows
 pub mod RescueRows
 pub mod HaltRows
 pub mod TollRows
+pub mod PleadRows

@@ -30,10 +30,10 @@ use Rattle.expression_runs.specs.Assignments.{setting_around, setting_of}
 use Rattle.expression_runs.specs.Values.{OverflowComes}
 use Rattle.error_units.specs.Errors.{ErrorGoes, ErrorRoutines}
 use Rattle.error_units.proofs.Conditions as E
-use Rattle.error_units.proofs.Conditions.{condition_by, divide_without, error_system, overflow_without, subscript_by}
+use Rattle.error_units.proofs.Conditions.{condition_by, divide_without, error_system, overflow_without, status_by}
+use Rattle.error_units.proofs.Conditions.{subscript_by}
 use Rattle.error_units.proofs.Errors.{error_deep, error_runs}
 use Rattle.edit_runs.specs.Edits.{within}
-use Rattle.text_runs.proofs.Errors.{error_ends}
 use Rattle.operator_runs.specs.Divisors.{ZeroDivideComes}
 use Rattle.number_runs.specs.Knowledge.{Includes, KnowsCalls, KnowsJumps, KnowsPuts, KnowsRaises, KnowsSignals}
 use Rattle.number_runs.specs.Numbers.{Scope}
@@ -56,8 +56,8 @@ use Rattle.unit_numbers.proofs.Outer.{main_saves, made_stacks}
 use Rattle.unit_numbers.proofs.Past.{past_like}
 use Rattle.unit_numbers.proofs.Puts.{settled_writes}
 use Rattle.unit_numbers.proofs.Raised.{Case, part_of, raise_setting, unit_at, unit_entered, unit_raised}
-use Rattle.unit_numbers.proofs.Scenes.{EachBody, IsAbove, IsAt, IsInside, Part, Rises, at_placed, block_of}
-use Rattle.unit_numbers.proofs.Scenes.{placed_outer, rises_above, scope_of}
+use Rattle.unit_numbers.proofs.Scenes.{EachBody, IsAbove, IsAt, IsInside, Part, Rises, at_placed, at_waited}
+use Rattle.unit_numbers.proofs.Scenes.{block_of, placed_outer, rises_above, scope_of, waited_outer}
 use Rattle.unit_numbers.proofs.Routines.{error_routines}
 use Rattle.unit_numbers.proofs.Units.{none_coded, unit_is}
 
@@ -107,20 +107,20 @@ unit_does {program} m h ih more b c o os a each own rises words labels includes 
 -- ---- the conditions
 
 pub error_at :
-    MarkedOnce → {program : Y.Program} (m : Main program) (h : Home) → IsHome' m h → (more blocks : ℕ) (c : Part)
-    (o : Outer) (os : List Outer) → IsAt m h (suc more) blocks c o os → EachBody m more → (own : List Label) →
+    (X : Type 0) → MarkedOnce → {program : Y.Program} (m : Main program) (h : Home) → IsHome' m h →
+    (more blocks : ℕ) (c : Part) (o : Outer) (os : List Outer) → IsAt m h (suc more) blocks c o os → EachBody m more → (own : List Label) →
     Rises m h (block_of m h o os) own → (words : ℕ) (labels : List Label) → Includes own labels → (line : ℕ)
     (r : ErrorRoutines (links_for program) (linked_code (code_for program))) →
-    ErrorGoes (Unit {0}) (raise_setting m h o os words labels line) r
-error_at once {program} m h ih more blocks c o os a each own rises words labels includes line r =
+    ErrorGoes X (raise_setting m h o os words labels line) r
+error_at X once {program} m h ih more blocks c o os a each own rises words labels includes line r =
     by blocks a (in_force once m h.input h.acts h.past ih.known C.Error)
   where
     by :
         (blocks' : ℕ) → IsAt m h (suc more) blocks' c o os → InForce m h.input h.acts h.past C.Error →
-        ErrorGoes (Unit {0}) (raise_setting m h o os words labels line) r
+        ErrorGoes X (raise_setting m h o os words labels line) r
     by blocks' a' (inl system) =
         let inside = r.routines.linked.inside in
-        error_system (Unit {0}) (raise_setting m h o os words labels line) r
+        error_system X (raise_setting m h o os words labels line) r
         (subst IsSystem (sym (a'.forced C.Error)) system) ih.few (omega (arith, inside))
     by zero a' (inr n) = let some = a'.depth.some in absurd (omega (arith, some))
     by (suc b) a' (inr n) =
@@ -129,11 +129,11 @@ error_at once {program} m h ih more blocks c o os a each own rises words labels 
         by_decision (nat_lt (length o.first.state.activations) most_activations)
         (λ few.
         let e = unit_raised once m h ih more b c o os a' words labels line n true few in
-        error_runs (Unit {0}) z y more e.0
+        error_runs X z y more e.0
         (unit_does m h ih more b c o os a' each own rises words labels includes line n e.0 e.1 few) n.condition r)
         (λ many.
         let e = unit_raised once m h ih more b c o os a' words labels line n false many in
-        error_deep (Unit {0}) z y more e.0 n.condition r)
+        error_deep X z y more e.0 n.condition r)
 
 overflow_at :
     MarkedOnce → {program : Y.Program} (m : Main program) (h : Home) → IsHome' m h → (more blocks : ℕ) (c : Part)
@@ -144,7 +144,7 @@ overflow_at once {program} m h ih more blocks c o os a each own rises words labe
     let routines = error_routines once program m.loadable in
     let inside = routines.routines.linked.inside in
     overflow_without (raise_setting m h o os words labels line) routines
-    (error_at once m h ih more blocks c o os a each own rises words labels includes line routines)
+    (error_at (Unit {0}) once m h ih more blocks c o os a each own rises words labels includes line routines)
     (subst IsSystem (sym (a.forced C.FixedOverflow)) system) ih.few (omega (arith, inside))
 overflow_at once m h ih more zero c o os a each own rises words labels includes line (inr n) =
     let some = a.depth.some in absurd (omega (arith, some))
@@ -169,7 +169,7 @@ divide_at once {program} m h ih more blocks c o os a each own rises words labels
     let routines = error_routines once program m.loadable in
     let inside = routines.routines.linked.inside in
     divide_without (raise_setting m h o os words labels line) routines
-    (error_at once m h ih more blocks c o os a each own rises words labels includes line routines)
+    (error_at (Unit {0}) once m h ih more blocks c o os a each own rises words labels includes line routines)
     (subst IsSystem (sym (a.forced C.ZeroDivide)) system) ih.few (omega (arith, inside))
 divide_at once m h ih more zero c o os a each own rises words labels includes line (inr n) =
     let some = a.depth.some in absurd (omega (arith, some))
@@ -257,7 +257,7 @@ signal_at once {program} m h ih more blocks c o os a each own rises labels inclu
     routines = error_routines once program m.loadable
 
     goes : ErrorGoes (Unit {0}) (raise_setting m h o os 0 labels line) routines
-    goes = error_at once m h ih more blocks c o os a each own rises 0 labels includes line routines
+    goes = error_at (Unit {0}) once m h ih more blocks c o os a each own rises 0 labels includes line routines
 
     raises :
         (blocks' : ℕ) → IsAt m h (suc more) blocks' c o os → InForce m h.input h.acts h.past condition →
@@ -308,7 +308,7 @@ raises_of once {program} m h ih more blocks c o os a each own rises =
       subscript = λ may words set labels line includes.
           let routines = error_routines once program m.loadable in
           subscript_by (raise_setting m h o os words labels line) routines
-          (error_at once m h ih more blocks c o os a each own rises words labels includes line routines);
+          (error_at (Unit {0}) once m h ih more blocks c o os a each own rises words labels includes line routines);
     }
 
 -- ---- what is written
@@ -349,18 +349,15 @@ held_puts once {program} m h ih more blocks c o os a writes errors held =
       lists = lists_known program (block_of m h o os) m.memory a.told;
     })
 
--- what is raised there comes to what it means, and no jump of a unit lands in this block
+-- what is raised there, ERROR too, comes to what it means, and no jump of a unit lands in this block
 free_puts :
     MarkedOnce → {program : Y.Program} (m : Main program) (h : Home) → IsHome' m h → (more blocks : ℕ) (c : Part)
     (o : Outer) (os : List Outer) → IsAt m h (suc more) blocks c o os → EachBody m more →
-    (has_jumps (list_of m) ≡ true → IsAbove m h os) → not (has_unit C.Error (list_of m)) ≡ true →
+    (has_jumps (list_of m) ≡ true → IsAbove m h os) →
     KnowsPuts (scope_of m c) (block_of m h o os) (most_for program)
-free_puts once {program} m h ih more blocks c o os a each above errors =
+free_puts once {program} m h ih more blocks c o os a each above =
     let k = block_of m h o os in
     let routines = error_routines once program m.loadable in
-    let inside = routines.routines.linked.inside in
-    let system = subst IsSystem (sym (a.forced C.Error))
-    (none_system once m h.input h.acts h.past ih.known C.Error errors) in
     record {
       numbers = λ words may place labels line.
           let o' = placed_outer place o in
@@ -376,7 +373,8 @@ free_puts once {program} m h ih more blocks c o os a each above errors =
                 (in_force once m h.input h.acts h.past ih.known C.ZeroDivide);
             subscript = λ raises.
                 subscript_by (raise_setting m h o' os words [] line) routines
-                (error_at once m h ih more blocks c o' os a' each [] rises words [] (λ label e. e) line routines);
+                (error_at (Unit {0}) once m h ih more blocks c o' os a' each [] rises words [] (λ label e. e) line
+                routines);
             variables = a'.variables;
             arrays = λ raises. a'.arrays;
             narrows = λ may'. a'.narrows;
@@ -388,13 +386,12 @@ free_puts once {program} m h ih more blocks c o os a each above errors =
             functions = λ level n is. absurd (cc is);
           };
       error = λ words may place labels line.
-          error_ends (List ℕ) (within place (setting_around words k labels line (most_for program))) (record {
-            routines = routines.routines;
-            raises = routines.error;
-            error = system;
-            acts = ih.few;
-            most = omega (arith, inside);
-          });
+          status_by (List ℕ) (within place (setting_around words k labels line (most_for program))) routines
+          (λ entries.
+          let o' = waited_outer entries (placed_outer place o) in
+          let a' = at_waited (at_placed a place) entries in
+          error_at (List ℕ) once m h ih more blocks c o' os a' each [] (rises_above m h (block_of m h o' os) [] above)
+          words [] (λ label e. e) line routines);
       lists = lists_known program k m.memory a.told;
     }
 
@@ -404,10 +401,13 @@ puts_of :
     (is_jumped_to c.caller c.unit (list_of m) ≡ false → has_jumps (list_of m) ≡ true → IsAbove m h os) →
     (scope_of m c).puts ≡ true → KnowsPuts (scope_of m c) (block_of m h o os) (most_for program)
 puts_of once {program} m h ih more blocks c o os a each above puts =
-    let parts = and_parts c.writes (not (has_unit C.Error (list_of m))) puts in
-    by_decision (is_jumped_to c.caller c.unit (list_of m))
-    (λ held. held_puts once m h ih (suc more) blocks c o os a parts.0 parts.1 held)
-    (λ free. free_puts once m h ih more blocks c o os a each (above free) parts.1)
+    let jumped = is_jumped_to c.caller c.unit (list_of m) in
+    let parts = and_parts c.writes (not (jumped && has_unit C.Error (list_of m))) puts in
+    by_decision jumped
+    (λ held.
+    held_puts once m h ih (suc more) blocks c o os a parts.0
+    (subst (λ q. not (q && has_unit C.Error (list_of m)) ≡ true) held parts.1) held)
+    (λ free. free_puts once m h ih more blocks c o os a each (above free))
 
 -- ---- jumps out
 

@@ -14,14 +14,17 @@ use Rattle.pli_coding.specs.Statements.{stmts_code}
 use Rattle.activation_relation.specs.FrameLaws.{with_waits}
 use Rattle.activation_relation.specs.Layers.{Layer}
 use Rattle.edit_runs.specs.Writing.{with_edits}
-use Rattle.pli_serving.specs.ServiceState.{EditPlace}
+use Rattle.pli_serving.specs.ServiceState.{EditPlace, Entry}
+use Rattle.program_runs.proofs.Waiting.{begun_waits}
+use Rattle.text_runs.proofs.Waiting.{number_waits}
+use Rattle.number_runs.proofs.Waiting.{array_waits, narrow_waits}
 use Rattle.edit_runs.proofs.Places.{begun_placed, number_placed}
 use Rattle.number_runs.proofs.Puts.{narrow_placed}
 use Rattle.program_places.specs.Placed.{Placed}
 use Rattle.program_places.specs.Programs.{code_for, links_for}
 use Rattle.program_runs.specs.Calls.{left_over}
 use Rattle.program_runs.specs.Starts.{image_parts}
-use Rattle.program_runs.specs.Statements.{Block, EachDoes, IsBegun, Outer, as_outer, outer_block}
+use Rattle.program_runs.specs.Statements.{Block, EachDoes, IsBegun, Outer, as_outer, outer_block, with_texts}
 use Rattle.expression_runs.specs.Assignments.{setting_of}
 use Rattle.expression_runs.specs.Variables.{IsNumber, Spot}
 use Rattle.element_runs.specs.Arrays.{IsArray}
@@ -239,6 +242,53 @@ at_placed {program} {m} {h} {more} {blocks} {c} {o} {os} a place =
       mains = λ x is. number_placed k place x (a.mains x is);
       main_arrays = λ x is. array_placed k place x (bounds_known (main_scope m false) x) (a.main_arrays x is);
       main_narrows = λ x is. narrow_placed k place x (type_known (main_scope m false) x) (a.main_narrows x is);
+      idle = a.idle;
+      code = a.code;
+      told = record { code = a.told.code; links = a.told.links; constants = a.told.constants };
+      free = record {
+        layer = free.layer;
+        below = free.below;
+        newest = free.newest;
+        even = free.even;
+        under = free.under;
+        low = free.low;
+        used = free.used;
+        fits = free.fits;
+      };
+      tabled = a.tabled;
+      depth = record { some = a.depth.some; all = a.depth.all };
+    }
+
+-- ---- while texts wait
+
+abbrev pub waited_outer : List Entry → Outer → Outer
+waited_outer entries o = record o { first = with_texts (entries ++ o.first.control.entries) o.first }
+
+pub at_waited :
+    {program : Y.Program} {m : Main program} {h : Home} {more blocks : ℕ} {c : Part} {o : Outer} {os : List Outer}
+    (a : IsAt m h more blocks c o os) (entries : List Entry) → IsAt m h more blocks c (waited_outer entries o) os
+at_waited {program} {m} {h} {more} {blocks} {c} {o} {os} a entries =
+    let k = block_of m h o os in
+    let free = a.free in
+    record {
+      begun = begun_waits k entries a.begun;
+      source = a.source;
+      parts = a.parts;
+      around = a.around;
+      enter = a.enter;
+      turns = a.turns;
+      enough = a.enough;
+      held = a.held;
+      nested = record { own = a.nested.own; few = a.nested.few; some = a.nested.some; same = a.nested.same };
+      inside = a.inside;
+      variables = λ x is. number_waits k entries x (a.variables x is);
+      arrays = λ x is. array_waits k entries x (bounds_known (scope_of m c) x) (a.arrays x is);
+      narrows = λ x is. narrow_waits k entries x (type_known (scope_of m c) x) (a.narrows x is);
+      forced = a.forced;
+      oldest = a.oldest;
+      mains = λ x is. number_waits k entries x (a.mains x is);
+      main_arrays = λ x is. array_waits k entries x (bounds_known (main_scope m false) x) (a.main_arrays x is);
+      main_narrows = λ x is. narrow_waits k entries x (type_known (main_scope m false) x) (a.main_narrows x is);
       idle = a.idle;
       code = a.code;
       told = record { code = a.told.code; links = a.told.links; constants = a.told.constants };

@@ -61,11 +61,11 @@ has_jumps all = list_any (λ x. jump_in x.body) (all_units_in all)
 abbrev pub is_jumped_to : (caller : Y.BlockHead) → (unit : Bool) → (all : Y.Stmts) → Bool
 is_jumped_to caller unit all = not unit && ((caller.level == 0) && has_jumps all)
 
--- a block whose statements may name the variables that a block may name, and call what that may: itself, or the main
--- procedure, of which it is a unit. It may write numbers, or it writes none. The main procedure's own list, if units
--- jump to its labels, writes nothing that raises a condition for which it has a unit, so that no place in a format list
--- is in use there. Since writing raises ERROR, nothing is written where that list has a unit for it. A unit doesn't
--- return, and may jump to the labels of that list.
+-- a block whose statements may name the variables that a block may name, and call what that may: itself, or the
+-- main procedure, of which it is a unit. It may write numbers, or it writes none. The main procedure's own list, if
+-- units jump to its labels, writes nothing that raises a condition for which it has a unit, so that no place in a
+-- format list is in use there: nothing at all with a unit for ERROR, which writing raises. A unit doesn't return,
+-- and may jump to the labels of that list.
 abbrev pub scope_in :
     Y.Program → List ℕ → (all : Y.Stmts) → (caller : Y.BlockHead) → (unit writes : Bool) → Scope
 scope_in program ns all caller unit writes =
@@ -82,7 +82,7 @@ scope_in program ns all caller unit writes =
       is_given_function = λ count level n. false;
       is_given_procedure = λ count level n. false;
       counts = true;
-      puts = writes && not (has_unit C.Error all);
+      puts = writes && not (is_jumped_to caller unit all && has_unit C.Error all);
       overflows = not (writes && (is_jumped_to caller unit all && has_unit C.FixedOverflow all));
       divides = not (writes && (is_jumped_to caller unit all && has_unit C.ZeroDivide all));
       narrows = true;

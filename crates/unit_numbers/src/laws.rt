@@ -8,6 +8,7 @@ ghost use Rattle.unit_numbers.specs.HailRows.{HailKept};
 ghost use Rattle.unit_numbers.specs.HaltRows.{HaltKept};
 ghost use Rattle.unit_numbers.specs.Headlines.{UnitNumberHeadlinesKept};
 ghost use Rattle.unit_numbers.specs.MendRows.{MendKept};
+ghost use Rattle.unit_numbers.specs.PleadRows.{PleadKept};
 ghost use Rattle.unit_numbers.specs.RescueRows.{RescueKept};
 ghost use Rattle.unit_numbers.specs.Rows.{HealKept};
 ghost use Rattle.unit_numbers.specs.ShiftRows.{ShiftKept};
@@ -115,6 +116,13 @@ pub fn halt_kept()
 /// A worked row: ONCODE in a unit, in one that is raised in it, and in neither.
 pub fn toll_kept()
     ensures { TollKept }
+{
+    unit_number_headlines_kept();
+}
+
+/// A worked row: a unit for ERROR that is raised while a procedure writes, writes itself, and leaves both by a jump.
+pub fn plead_kept()
+    ensures { PleadKept }
 {
     unit_number_headlines_kept();
 }
