@@ -87,14 +87,14 @@ abbrev pub part_of : {k : Block} {x : Spot} → IsParameter k x → ℕ
 part_of is = is.at + 24 * is.place
 
 -- its name, its signature's number, and where its procedure keeps the list
-record HasList {k : Block} {x : Spot} (is : IsParameter k x) (base : ℕ) (m : List ℕ) : Type 0 where
-  offset : load 4 m (is.layer.at + 44) ≡ is.at
-  address : load 4 m (is.layer.at + list_place is.layer.level) ≡ base + is.at
-  kind : load 4 m (word_place is.caller (is.last + 5)) ≡ 1
-  second : load 4 m (word_place is.caller (is.last + 4)) ≡ 0
-  low : load 4 m (word_place is.caller (is.last + 3)) ≡ is.serial % 2 ^ 32
-  high : load 4 m (word_place is.caller (is.last + 2)) ≡ is.serial / 2 ^ 32
-  number : load 4 m (word_place is.caller (is.last + 1)) ≡ is.signature
+pub record HasList {k : Block} {x : Spot} (is : IsParameter k x) (base : ℕ) (m : List ℕ) : Type 0 where
+  pub offset : load 4 m (is.layer.at + 44) ≡ is.at
+  pub address : load 4 m (is.layer.at + list_place is.layer.level) ≡ base + is.at
+  pub kind : load 4 m (word_place is.caller (is.last + 5)) ≡ 1
+  pub second : load 4 m (word_place is.caller (is.last + 4)) ≡ 0
+  pub low : load 4 m (word_place is.caller (is.last + 3)) ≡ is.serial % 2 ^ 32
+  pub high : load 4 m (word_place is.caller (is.last + 2)) ≡ is.serial / 2 ^ 32
+  pub number : load 4 m (word_place is.caller (is.last + 1)) ≡ is.signature
 
 list_found :
     {k : Block} {x : Spot} (is : IsParameter k x) (base : ℕ) (m : List ℕ) (as' : List Activation) →
@@ -116,11 +116,11 @@ list_found is base m (b ∷ a ∷ as') h =
     }
 
 -- where the list lies
-record Lying {k : Block} {x : Spot} (is : IsParameter k x) : Type 0 where
-  list : IsFrame is.at
-  frame : IsFrame is.layer.at
+pub record Lying {k : Block} {x : Spot} (is : IsParameter k x) : Type 0 where
+  pub list : IsFrame is.at
+  pub frame : IsFrame is.layer.at
 
-lying :
+pub lying :
     {k : Block} {x : Spot} {numbers : ℕ → ℕ} {p : Point} (is : IsParameter k x) → IsAmong k numbers p → Lying is
 lying {k} is o =
     let parts = k.call.surroundings.parts in
@@ -335,7 +335,7 @@ resolve_called code y v x0 x1 e r =
 
 -- ---- the code
 
-abbrev named_regs : {k : Block} {x : Spot} → IsParameter k x → Base → List (ℕ × ℕ)
+abbrev pub named_regs : {k : Block} {x : Spot} → IsParameter k x → Base → List (ℕ × ℕ)
 named_regs is b = (10, part_of is) ∷ []
 
 abbrev listed_regs : {k : Block} {x : Spot} → IsParameter k x → Base → List (ℕ × ℕ)
@@ -362,7 +362,7 @@ found_at b x n e inside = let v = b.valid.1 in omega (arith, e, inside, v)
 pub there_at : (b : Base) (x n : ℕ) → x ≡ b.at + n → n + 4 ≤ 15 * 2 ^ 20 → sum x (word (pos 0)) ≡ b.at + n
 there_at b x n e inside = let v = b.valid.1 in omega (arith, e, inside, v)
 
-words_at :
+pub words_at :
     {k : Block} {x : Spot} {numbers : ℕ → ℕ} {p : Point} (is : IsParameter k x) → IsAmong k numbers p → (b : Base)
     (m : List ℕ) → FramesStand k.call.surroundings.parts b.at m p.state.activations p.control.layers →
     HasList is b.at m
@@ -370,13 +370,13 @@ words_at {k} {p = p} is o b m frames =
     list_found is b.at m p.state.activations
     (subst (FramesStand k.call.surroundings.parts b.at m p.state.activations) (o.later.layers ∙ is.layers) frames)
 
-frame_same :
+pub frame_same :
     {k : Block} {x : Spot} {numbers : ℕ → ℕ} {p : Point} (is : IsParameter k x) → IsAmong k numbers p →
     frame_under k.call.surroundings.parts p.control.layers ≡ is.layer.at
 frame_same {k} is o = ap (λ ls. frame_under k.call.surroundings.parts ls) (o.later.layers ∙ is.layers)
 
-name_comes :
-    {k : Block} {x : Spot} {numbers : ℕ → ℕ} {p : Point} {i : ℕ} (is : IsParameter k x) (o : IsAmong k numbers p)
+pub name_comes :
+    {k : Block} {x : Spot} {numbers held : ℕ → ℕ} {p : Point} {i : ℕ} (is : IsParameter k x) (o : IsAmong k held p)
     (h : frame_of k p) (c : ℕ) (f : Family) → Linked k.call.surroundings.links k.call.code i (name_loaded is.place) →
     AreIn k.call.surroundings p numbers i f →
     Reach k.call.code c f (services_of p) (c + 2) (services_of p)

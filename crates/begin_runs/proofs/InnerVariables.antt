@@ -22,7 +22,7 @@ use Rattle.program_runs.specs.Statements.{Block}
 use Rattle.program_runs.specs.Variables.{Declared, generation_for, made_of}
 use Rattle.program_runs.proofs.VariableMemory.{made_stands}
 use Rattle.program_runs.proofs.VariableProcedures.{variables_mean}
-use Rattle.program_runs.proofs.Variables.{variable_comes, variable_means}
+use Rattle.program_runs.proofs.Variables.{variable_comes, variable_means, without_initial}
 use Rattle.begin_runs.specs.BeginBlocks.{AreMade, Inner, begun_in, environment_of, inner_beginning, inner_layer}
 use Rattle.begin_runs.specs.BeginBlocks.{list_index, variables_index}
 use Rattle.begin_runs.specs.InnerVariables.{IsOnly}
@@ -108,7 +108,11 @@ one_made k x index p numbers d h =
     ∙ variable_means w start d φ p.control.layers w.acts h.declared in
     record {
       stands = λ known. subst (λ u. Stands w u × IsImage w k.call.code u) (sym here)
-          (made_stands (record { stands = known.0; image = known.1; is = h.declared }));
+          (made_stands (record {
+            stands = known.0;
+            image = known.1;
+            is = without_initial w k.call.code start d φ p.control.layers h.declared;
+          }));
       comes = λ credits f known l there.
           subst (λ u. Reach k.call.code credits f (services_of start) (credits + size_of x.variables) (services_of u)
           (λ b z. IsIn w u numbers (list_index k p numbers x index) b z)) (sym here)

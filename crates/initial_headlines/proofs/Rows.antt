@@ -37,6 +37,7 @@ use Rattle.program_runs.specs.Starts.{start_point, surroundings_of}
 use Rattle.program_runs.specs.Statements.{Block, EachDoes, IsBegun, StandAt}
 use Rattle.program_runs.proofs.Gotos.{goto_does}
 use Rattle.program_runs.proofs.VariableRows.{differs_alone, number_valued}
+use Rattle.program_runs.specs.Initial.{Begins}
 use Rattle.program_runs.specs.Variables.{Declared, generation_for}
 use Rattle.expression_runs.specs.Assignments.{IsAssignment, setting_of}
 use Rattle.expression_runs.specs.Raises.{IsUnraised}
@@ -48,12 +49,9 @@ use Rattle.expression_runs.proofs.Rows.{one_label_stands}
 use Rattle.expression_runs.proofs.Raises.{overflow_ends}
 use Rattle.expression_runs.proofs.Sums.{sum_does}
 use Rattle.expression_runs.proofs.VariablePoints.{variable_does}
-use Rattle.variable_runs.specs.Lists.{newest_all}
-use Rattle.variable_runs.proofs.Known.{known_number}
-use Rattle.initial_runs.specs.Lists.{AreAllBegun}
-use Rattle.initial_runs.specs.Told.{HasInitial}
-use Rattle.initial_runs.proofs.Known.{known_own}
-use Rattle.initial_runs.proofs.Lists.{all_begin}
+use Rattle.variable_runs.specs.Lists.{AreAllBegun, newest_all}
+use Rattle.variable_runs.proofs.Known.{known_begun, known_number}
+use Rattle.variable_runs.proofs.Lists.{all_begun}
 use Rattle.program_places.specs.Constants.{constants_in}
 use Rattle.program_places.specs.Programs.{Run, image_for}
 use Rattle.program_places.proofs.Marks.{named_has}
@@ -155,7 +153,7 @@ reach_valued leaf is less within = by_leaf leaf is less
     by_leaf zero is less = (omega arith, refl)
     by_leaf (suc leaf) is less = absurd (omega (arith, less))
 
-reach_initial : HasInitial (constants_in reach_code) (linked_code reach_code) (links_of reach_code).data' reach_variable
+reach_initial : Begins (constants_in reach_code) (linked_code reach_code) (links_of reach_code).data' reach_variable
 reach_initial =
     initial_told reach_program reach_variable (record { leaf = 0; values = items_bytes reach_items }) reach_fits
     refl refl
@@ -174,11 +172,11 @@ reach_all input acts =
         record { class = refl; evaluations = refl; late = omega arith; table = refl },
         (record { class = refl; evaluations = refl; late = omega arith; table = refl }, tt),
       );
-      coded = refl;
+      code = refl;
       made = refl;
       parts = refl;
       few = omega arith;
-      begin = (
+      declared = (
         inl (record {
           newest = refl;
           here = refl;
@@ -197,7 +195,7 @@ reach_all input acts =
           limit = refl;
         }),
         (
-          inr (inl (record {
+          inl (record {
             newest = refl;
             here = refl;
             holds = omega arith;
@@ -208,13 +206,12 @@ reach_all input acts =
             shape = refl;
             number = omega arith;
             initial = refl;
-            none = refl;
             plain = refl;
             fixed = refl;
             values = (tt, tt);
             valued = number_valued;
             limit = refl;
-          })),
+          }),
           tt,
         ),
       );
@@ -229,7 +226,7 @@ reach_number :
     (input : List ℕ) (acts : ℕ) → IsBegun (reach_block input acts) → IsNumber (reach_block input acts) reach_spot
 reach_number input acts b =
     known_number (reach_block input acts) reach_spot reach_items
-    (known_own (surroundings_of (reach_image input acts)) (linked_code reach_code) (main_of (reach_whole input acts))
+    (known_begun (surroundings_of (reach_image input acts)) (linked_code reach_code) (main_of (reach_whole input acts))
     (start_point (reach_image input acts)) no_numbers reach_variables reach_declared reach_spot
     (record { high = omega arith; inside = omega arith }) (reach_all input acts) (inl refl)
     (record { declared = refl; index = refl; level = refl; own = refl; place = refl }) b)
@@ -238,7 +235,7 @@ other_number :
     (input : List ℕ) (acts : ℕ) → IsBegun (reach_block input acts) → IsNumber (reach_block input acts) other_spot
 other_number input acts b =
     known_number (reach_block input acts) other_spot []
-    (known_own (surroundings_of (reach_image input acts)) (linked_code reach_code) (main_of (reach_whole input acts))
+    (known_begun (surroundings_of (reach_image input acts)) (linked_code reach_code) (main_of (reach_whole input acts))
     (start_point (reach_image input acts)) no_numbers reach_variables other_declared other_spot
     (record { high = omega arith; inside = omega arith }) (reach_all input acts) (inr (inl refl))
     (record { declared = refl; index = refl; level = refl; own = refl; place = refl }) b)
@@ -367,7 +364,7 @@ reach_is input acts few =
         bytes = first_length (picture_of parts reach_program) reach_fits;
         told = constants_stand reach_code reach_fits;
       };
-      made = all_begin (surroundings_of (reach_image input acts)) (linked_code reach_code)
+      made = all_begun (surroundings_of (reach_image input acts)) (linked_code reach_code)
           (main_of (reach_whole input acts)) (start_point (reach_image input acts)) no_numbers reach_variables
           (reach_all input acts);
       callee = record {

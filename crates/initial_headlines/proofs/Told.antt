@@ -1,6 +1,6 @@
 -- What code names of INITIAL values is told where it stands.
 use Rattle.std.proofs.Common.{Bool, ◌≡◌, ◌⊎◌, inl, inr, ◌+◌, ◌^◌, ◌≤◌, List, [], ◌∷◌, ◌++◌, length, Some, true, false}
-use Rattle.std.proofs.Common.{refl, sym, ap, ◌∙◌}
+use Rattle.std.proofs.Common.{refl, sym, ap, ◌∙◌, subst}
 use Rattle.std.specs.List.{filter, flat_map, list_any}
 use Rattle.std.specs.Prelude.{cond, map}
 use Rattle.std.proofs.lemmas.Bool.{or_cases, or_left, or_right}
@@ -19,7 +19,7 @@ use Rattle.code_marks.specs.CodeData.{Has}
 use Rattle.code_marks.proofs.DataOnce.{named_once, placed_same, same_datum-equal, same_datum-same}
 use Rattle.storage_relation.specs.Beginning.{AllGiven, AllNoEmpty}
 use Rattle.run_steps.specs.DataNamed.{IsNamed, IsPlaced}
-use Rattle.initial_runs.specs.Told.{BytesTold, HasInitial}
+use Rattle.program_runs.specs.Initial.{Begins, BeginsWith, BytesTold, HasInitial}
 use Rattle.program_places.specs.Constants.{bytes_for, constants_in, datum_at, is_unwritten}
 use Rattle.program_places.specs.Programs.{code_for, links_for}
 use Rattle.pli_headline.specs.Headline.{FitsMemory, parts}
@@ -184,7 +184,7 @@ pub initial_told :
     (program : Y.Program) (d : Y.DeclaredVariable) (l : InitialLeaf) → FitsMemory (picture_of parts program) →
     IsPlaced (InitialValues (l ∷ [])) (links_for program).data' → initial_datum d ≡ Some (InitialValues (l ∷ [])) →
     AllGiven [] d.leaves → AllNoEmpty (initial_of d) → length d.leaves ≤ 2 ^ 32 →
-    HasInitial (constants_in (code_for program)) (linked_code (code_for program)) (links_for program).data' d
+    Begins (constants_in (code_for program)) (linked_code (code_for program)) (links_for program).data' d
 initial_told program d l fits placed datum given some few =
     let code = code_for program in
     let lists = InitialValues (l ∷ []) in
@@ -193,12 +193,11 @@ initial_told program d l fits placed datum given some few =
     let values = ConstantBytes l.values in
     let has : Has (static_data code) values =
     values_has code (l ∷ []) values named (or_left _ _ (same_datum-same values)) in
-    record {
-      lists = l ∷ [];
-      datum = datum;
+    let told : HasInitial (constants_in code) (linked_code code) (links_for program).data' d (l ∷ []) = record {
       given = given;
       some = some;
       few = few;
       whole = bytes_told code lists fits refl there;
       values = ((values_behind code l named has, bytes_told code values fits refl has), tt);
-    }
+    } in
+    subst (BeginsWith (constants_in code) (linked_code code) (links_for program).data' d) (sym datum) told

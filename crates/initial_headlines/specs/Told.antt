@@ -7,7 +7,7 @@ use Rattle.pli_coding.specs.Images.{linked_code, picture_of}
 use Rattle.pli_coding.specs.StaticForms.{initial_datum}
 use Rattle.storage_relation.specs.Beginning.{AllGiven, AllNoEmpty}
 use Rattle.run_steps.specs.DataNamed.{IsPlaced}
-use Rattle.initial_runs.specs.Told.{HasInitial}
+use Rattle.program_runs.specs.Initial.{Begins}
 use Rattle.program_places.specs.Constants.{constants_in}
 use Rattle.program_places.specs.Programs.{code_for, links_for}
 use Rattle.pli_headline.specs.Headline.{FitsMemory, parts}
@@ -18,4 +18,4 @@ InitialTold =
     (program : Y.Program) (d : Y.DeclaredVariable) (l : InitialLeaf) → FitsMemory (picture_of parts program) →
     IsPlaced (InitialValues (l ∷ [])) (links_for program).data' → initial_datum d ≡ Some (InitialValues (l ∷ [])) →
     AllGiven [] d.leaves → AllNoEmpty (initial_of d) → length d.leaves ≤ 2 ^ 32 →
-    HasInitial (constants_in (code_for program)) (linked_code (code_for program)) (links_for program).data' d
+    Begins (constants_in (code_for program)) (linked_code (code_for program)) (links_for program).data' d

@@ -13,9 +13,9 @@ use Rattle.storage_relation.specs.Telling.{IsOf}
 use Rattle.activation_relation.specs.Layers.{Layer, Point}
 use Rattle.activation_relation.specs.Points.{Surroundings}
 use Rattle.activation_relation.specs.Variables.{with_made}
+use Rattle.program_runs.specs.Initial.{MayBeMade}
 use Rattle.program_runs.specs.Variables.{generation_for, made_of, place_behind}
-use Rattle.initial_runs.specs.Numbers.{ConstantTold, HasRoom, constant_declared, constant_leaf}
-use Rattle.initial_runs.specs.Variables.{IsInitial}
+use Rattle.initial_runs.specs.Numbers.{ConstantTold, HasRoom, constant_declared}
 
 constant_valued :
     (index number place : ℕ) (z : ℤ) → is_of_precision 31 z ≡ true →
@@ -33,7 +33,7 @@ pub constant_begins :
     (w : Surroundings) (code : List Instr) (p : Point) (index number place : ℕ) (z : ℤ) (φ : Layer)
     (φs : List Layer) → is_of_precision 31 z ≡ true → ConstantTold p.places.constants code w.links.data' z →
     HasRoom w p (constant_declared index number place z) φ φs →
-    IsInitial w code p (constant_declared index number place z) φ φs
+    MayBeMade w code p (constant_declared index number place z) φ φs
 constant_begins w code p index number place z φ φs small told h =
     let x = constant_declared index number place z in
     let counted = h.counted in
@@ -51,8 +51,6 @@ constant_begins w code p index number place z φ φs small told h =
       shape = h.shape;
       number = h.number;
       initial = record {
-        lists = constant_leaf z ∷ [];
-        datum = refl;
         given = (((omega arith, (omega arith, small)), tt), tt);
         some = ((tt, tt), tt);
         few = omega arith;

@@ -1,4 +1,1 @@
-pub mod Told
-pub mod Variables
-pub mod Lists
 pub mod Numbers

@@ -16,10 +16,9 @@ use Rattle.pli_coding.specs.StaticForms.{items_bytes}
 use Rattle.activation_relation.specs.Layers.{Layer, Point}
 use Rattle.activation_relation.specs.Points.{Surroundings}
 use Rattle.activation_relation.specs.Variables.{with_made}
+use Rattle.program_runs.specs.Initial.{BytesTold, MayBeMade}
 use Rattle.program_runs.specs.Variables.{Declared, generation_for, made_of}
 use Rattle.expression_runs.specs.Variables.{number_declared}
-use Rattle.initial_runs.specs.Told.{BytesTold}
-use Rattle.initial_runs.specs.Variables.{IsInitial}
 
 abbrev pub constant_items : ℤ → List InitialItem
 constant_items z = record { repetition = 1; value = InitialNumber z } ∷ []
@@ -63,7 +62,7 @@ pub record ConstantsBegin : Type 0 where
       (w : Surroundings) (code : List Instr) (p : Point) (index number place : ℕ) (z : ℤ) (φ : Layer)
       (φs : List Layer) → is_of_precision 31 z ≡ true → ConstantTold p.places.constants code w.links.data' z →
       HasRoom w p (constant_declared index number place z) φ φs →
-      IsInitial w code p (constant_declared index number place z) φ φs
+      MayBeMade w code p (constant_declared index number place z) φ φs
   -- once it has been made, the constant is what it holds
   pub holds :
       (w : Surroundings) (p : Point) (index number place : ℕ) (z : ℤ) (φ : Layer) →

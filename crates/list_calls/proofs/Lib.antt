@@ -16,6 +16,8 @@ pub mod ListLimits
 pub mod ListFunctions
 pub mod NamePassing
 pub mod VariablesPassed
+pub mod ParametersPassed
 pub mod ListRows
 pub mod WordsBeside
 pub mod WordsKnown
+pub mod Telling

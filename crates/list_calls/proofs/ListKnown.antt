@@ -48,7 +48,7 @@ slice_inside (suc n) (x' ∷ xs) x e = let less = slice_inside n xs x e in omega
 
 -- ---- its activation and its layer
 
-active_in :
+pub active_in :
     {g : Option Function} {y : ListCall} {made : Point → Point} (m : AreBeside g y made) →
     IsBegun (list_block g y made) →
     AreActive y.surroundings.units (with_units m.own m.activation ∷ y.point.state.activations)
@@ -60,7 +60,7 @@ active_in {g} {y} {made} m b =
     subst (λ xs. AreActive y.surroundings.units xs (φ ∷ below)) m.activations
     (subst (λ ls. AreActive y.surroundings.units inner.first.state.activations ls) m.layers b.resumes.stands.active)
 
-list_over :
+unfoldable pub list_over :
     (g : Option Function) (k : Block) (u : Listed) (more : ℕ) (p : Point) (numbers : ℕ → ℕ) (ys : List Passing) →
     Begins g k u more p numbers ys → Over k (list_block g (called_with k u p numbers ys) u.made) u.level p
 list_over g k u more p numbers ys h =

@@ -399,30 +399,73 @@ place_code place count n =
     load_word a2 frame_register own_offset
     ++ plus a2 a2 (argument_place (record { place = place; words = count }) n 0)
 
-abbrev pub storing_code : (signature place count n : ℕ) → Code
-storing_code signature place count n =
-    number u1 signature
+-- what brings the number of the signature into u1 stands before it
+abbrev pub storing_code : Code → (place count n : ℕ) → Code
+storing_code third place count n =
+    third
     ++ (store_word frame_register u1 (argument_place (record { place = place; words = count }) n 4)
     ++ store_word frame_register zero_register (argument_place (record { place = place; words = count }) n 5))
 
--- what finds the name stands before it
-abbrev pub passing_code : Code → (signature place count n : ℕ) → Code
-passing_code first signature place count n =
+-- what finds the name stands before it, and what brings the number of the signature into a1
+abbrev pub passing_code : (first second third : Code) → (place count n : ℕ) → Code
+passing_code first second third place count n =
     first
-    ++ (number a1 signature
+    ++ (second
     ++ (place_code place count n
-    ++ (small a7 9 ∷ (Plain I.Ecall ∷ (status_tested ++ storing_code signature place count n)))))
+    ++ (small a7 9 ∷ (Plain I.Ecall ∷ (status_tested ++ storing_code third place count n)))))
 
 -- ---- its pieces
 
-abbrev number_regs : (from signature : ℕ) → Base → List (ℕ × ℕ)
+abbrev pub number_regs : (from signature : ℕ) → Base → List (ℕ × ℕ)
 number_regs from signature b = (11, signature) ∷ (10, from) ∷ []
 
 abbrev placed_regs : (to from signature : ℕ) → Base → List (ℕ × ℕ)
 placed_regs to from signature b = (12, to) ∷ number_regs from signature b
 
-abbrev answered_regs : Base → List (ℕ × ℕ)
+abbrev pub answered_regs : Base → List (ℕ × ℕ)
 answered_regs b = (11, 0) ∷ []
+
+-- code brings the number into a1 beside the name's offset, and into u1 behind the service, whatever words tell
+pub record Signs (w : Surroundings) (code : List Instr) (p : Point) (φ : Layer) (φs : List Layer) (second third : Code)
+    (from signature : ℕ) : Type 0 where
+  pub comes :
+      (told : Told) {numbers : ℕ → ℕ} {i : ℕ} (h : IsFrame (frame_under w.parts (with_list told φ φs p).control.layers))
+      (c : ℕ) (f : Family) → Linked w.links code i second →
+      ((b : Base) → At b i (Known (point_ground w (with_list told φ φs p) h) (services_of (with_list told φ φs p))
+      numbers (λ j. 0) (λ b'. (10, from) ∷ []) b) (f b)) →
+      Reach code c f (services_of (with_list told φ φs p)) (c + size_of second) (services_of (with_list told φ φs p))
+      (λ b y. At b (i + size_of second) (Known (point_ground w (with_list told φ φs p) h)
+      (services_of (with_list told φ φs p)) numbers (λ j. 0) (number_regs from signature) b) y)
+  pub again :
+      (told : Told) {numbers : ℕ → ℕ} {i : ℕ} (h : IsFrame (frame_under w.parts (with_list told φ φs p).control.layers))
+      (c : ℕ) (f : Family) → Linked w.links code i third →
+      ((b : Base) → At b i (Known (point_ground w (with_list told φ φs p) h) (services_of (with_list told φ φs p))
+      numbers (λ j. 0) answered_regs b) (f b)) →
+      Reach code c f (services_of (with_list told φ φs p)) (c + size_of third) (services_of (with_list told φ φs p))
+      (λ b y. At b (i + size_of third) (Known (point_ground w (with_list told φ φs p) h)
+      (services_of (with_list told φ φs p)) numbers (λ j. 0) (λ b'. (6, signature) ∷ answered_regs b') b) y)
+
+-- a constant
+pub signs_known :
+    (w : Surroundings) (code : List Instr) (p : Point) (φ : Layer) (φs : List Layer) (from signature : ℕ) →
+    signature < 2 ^ 31 → Signs w code p φ φs (number a1 signature) (number u1 signature) from signature
+signs_known w code p φ φs from signature small' =
+    record {
+      comes = λ told h c f l there.
+          reach_map _ (constant_piece c f a1 (pos signature) (word_fits signature small')
+          (record { reserved_stay = λ y u. refl; known_stay = λ b y u o. o; set = λ y u. refl }) l there)
+          (λ b y o. record {
+            pc = o.pc;
+            holds = record { body = o.holds.body; regs = (o.holds.regs.0 ∙ word_is signature small', o.holds.regs.1) };
+          });
+      again = λ told h c f l there.
+          reach_map _ (constant_piece c f u1 (pos signature) (word_fits signature small')
+          (record { reserved_stay = λ y u. refl; known_stay = λ b y u o. o; set = λ y u. refl }) l there)
+          (λ b y o. record {
+            pc = o.pc;
+            holds = record { body = o.holds.body; regs = (o.holds.regs.0 ∙ word_is signature small', o.holds.regs.1) };
+          });
+    }
 
 place_comes :
     {w : Surroundings} {code : List Instr} {p : Point} {numbers : ℕ → ℕ} {i : ℕ} (place count n last to from
@@ -602,27 +645,29 @@ none : (last : ℕ) → last + (5 - 5) ≡ last
 none last = omega arith
 
 storing_comes :
-    {w : Surroundings} {code : List Instr} (p : Point) (φ : Layer) (φs : List Layer) (told : Told)
-    (signature place count n last c : ℕ) {numbers : ℕ → ℕ} {i : ℕ} (f : Family) →
+    {w : Surroundings} {code : List Instr} {second third : Code} {from signature : ℕ} (p : Point) (φ : Layer)
+    (φs : List Layer) (told : Told) (place count n last c : ℕ) {numbers : ℕ → ℕ} {i : ℕ} (f : Family) →
     Stands w (with_list told φ φs p) × IsImage w code (with_list told φ φs p) → signature < 2 ^ 31 →
+    Signs w code p φ φs second third from signature →
     IsPart place count n last φ → (h : IsFrame (frame_under w.parts (with_list told φ φs p).control.layers)) →
-    Linked w.links code i (storing_code signature place count n) →
+    Linked w.links code i (storing_code third place count n) →
     ((b : Base) → At b i (Known (point_ground w (with_list told φ φs p) h) (services_of (with_list told φ φs p))
     numbers (λ j. 0) answered_regs b) (f b)) →
-    Reach code c f (services_of (with_list told φ φs p)) (c + size_of (storing_code signature place count n))
+    Reach code c f (services_of (with_list told φ φs p)) (c + size_of (storing_code third place count n))
     (services_of (with_list (with_word last 0 (with_word (last + 1) signature told)) φ φs p))
-    (λ b y. At b (i + size_of (storing_code signature place count n))
+    (λ b y. At b (i + size_of (storing_code third place count n))
     (Known (point_ground w (with_list (with_word last 0 (with_word (last + 1) signature told)) φ φs p) h)
     (services_of (with_list (with_word last 0 (with_word (last + 1) signature told)) φ φs p)) numbers (λ j. 0)
     (λ b'. (6, signature) ∷ answered_regs b') b) y)
-storing_comes {w} {code} p φ φs told signature place count n last c f known number' part' h l there =
+storing_comes {w} {code} {third = third} {signature = signature} p φ φs told place count n last c f known number' signs
+    part' h l there =
     let two : Told = with_word (last + 1) signature told in
     let q1 = with_list told φ φs p in
     let q2 = with_list two φ φs p in
     let ends = part'.ends in
     let within = part'.inside in
     let known2 = with_list_stands w code q1 (with_waits told φ) φs two known refl in
-    let num = number u1 signature in
+    let num = third in
     let l4 = argument_place (record { place = place; words = count }) n 4 in
     let l5 = argument_place (record { place = place; words = count }) n 5 in
     let store4 = store_word frame_register u1 l4 in
@@ -637,19 +682,12 @@ storing_comes {w} {code} p φ φs told signature place count n last c f known nu
     (word_in_frame q1 (with_waits told φ) φs (last + 1) known refl (omega (arith, ends, within))) in
     let at5 = subst (λ z. WordAt z last (with_waits two φ)) (sym z5)
     (word_in_frame q2 (with_waits two φ) φs last known2 refl (omega (arith, ends, within))) in
-    let r7 = constant_piece c f u1 (pos signature) (word_fits signature number')
-    (record { reserved_stay = λ y u. refl; known_stay = λ b y u o. o; set = λ y u. refl })
-    (front_of num (store4 ++ store5) l) there in
+    let r7 = signs.again told h c f (front_of num (store4 ++ store5) l) there in
     let r8 = register_kept q1 (with_waits told φ) φs {rs = λ b'. (6, signature) ∷ answered_regs b'}
     (c + size_of num) (reached r7) u1 l4 (last + 1) signature known.0 h
     (omega (arith, ends, within), omega (arith, number')) at4 (λ y u. refl) (λ b y o'. o'.regs.0)
     (record { reserved_stay = λ y u. refl; known_stay = λ b y u o. o; set = λ y u. refl })
-    (front_of store4 store5 l1)
-    (λ b. let o' = reached_holds r7 b in
-    record {
-      pc = o'.pc;
-      holds = record { body = o'.holds.body; regs = (o'.holds.regs.0 ∙ word_is signature number', o'.holds.regs.1) };
-    }) in
+    (front_of store4 store5 l1) (reached_holds r7) in
     let r9 = register_kept q2 (with_waits two φ) φs {rs = λ b'. (6, signature) ∷ answered_regs b'}
     (c + size_of num + size_of store4) (reached r8) zero_register l5 last 0 known2.0 h
     (omega (arith, ends, within), omega arith) at5 (λ y u. refl) (λ b y o'. zero_is o'.body)
@@ -659,28 +697,29 @@ storing_comes {w} {code} p φ φs told signature place count n last c f known nu
 
 -- ---- the whole
 
-pieces : (first : Code) (signature place count n : ℕ) → passing_code first signature place count n
-    ≡ first ++ (number a1 signature ++ (ask_code place count n ++ storing_code signature place count n))
-pieces first signature place count n =
-    ap (λ u. first ++ (number a1 signature ++ u))
+pieces : (first second third : Code) (place count n : ℕ) → passing_code first second third place count n
+    ≡ first ++ (second ++ (ask_code place count n ++ storing_code third place count n))
+pieces first second third place count n =
+    ap (λ u. first ++ (second ++ u))
     (sym (append_assoc (place_code place count n) (small a7 9 ∷ (Plain I.Ecall ∷ status_tested))
-    (storing_code signature place count n)))
+    (storing_code third place count n)))
 
 pub name_passed :
-    {w : Surroundings} {code : List Instr} {first : Code} {serial signature : ℕ} (p : Point) (φ : Layer)
+    {w : Surroundings} {code : List Instr} {first second third : Code} {serial signature : ℕ} (p : Point) (φ : Layer)
     (φs : List Layer) (told : Told) (place count n last credits index : ℕ) {numbers : ℕ → ℕ} (f : Family) →
     Stands w (with_list told φ φs p) × IsImage w code (with_list told φ φs p) →
-    Finds w code (with_list told φ φs p) first serial signature → IsPart place count n last φ →
-    Linked w.links code index (passing_code first signature place count n) →
+    (s : Finds w code (with_list told φ φs p) first serial signature) →
+    Signs w code p φ φs second third s.from signature → IsPart place count n last φ →
+    Linked w.links code index (passing_code first second third place count n) →
     AreIn w (with_list told φ φs p) numbers index f →
     Reach code credits f (services_of (with_list told φ φs p))
-    (credits + size_of (passing_code first signature place count n))
+    (credits + size_of (passing_code first second third place count n))
     (services_of (with_list (name_told last serial signature 0 told) φ φs p))
     (λ b y. IsIn w (with_list (name_told last serial signature 0 told) φ φs p) numbers
-    (index + size_of (passing_code first signature place count n)) b y)
-name_passed {w} {code} {first} {serial} {signature} p φ φs told place count n last c index {numbers} f known s part' l'
-    there =
-    let eq = pieces first signature place count n in
+    (index + size_of (passing_code first second third place count n)) b y)
+name_passed {w} {code} {first} {second} {third} {serial} {signature} p φ φs told place count n last c index {numbers} f
+    known s signs part' l' there =
+    let eq = pieces first second third place count n in
     let size = ap (λ t. size_of t) eq in
     let l = subst (Linked w.links code index) eq l' in
     let q0 = with_list told φ φs p in
@@ -688,9 +727,9 @@ name_passed {w} {code} {first} {serial} {signature} p φ φs told place count n 
     let h = point_frame known.0 known.1 in
     let number' = s.number in
     let known1 = with_list_stands w code q0 (with_waits told φ) φs one known refl in
-    let num = number a1 signature in
+    let num = second in
     let ask = ask_code place count n in
-    let last' = storing_code signature place count n in
+    let last' = storing_code third place count n in
     let l1 = back_of first (num ++ (ask ++ last')) l in
     let l2 = back_of num (ask ++ last') l1 in
     let n0 = size_append first (num ++ (ask ++ last')) in
@@ -699,16 +738,10 @@ name_passed {w} {code} {first} {serial} {signature} p φ φs told place count n 
     let c1 = c + size_of first in
     let c2 = c1 + size_of num in
     let r1 = s.comes h c f (front_of first (num ++ (ask ++ last')) l) there in
-    let r2 = constant_piece c1 (reached r1) a1 (pos signature) (word_fits signature number')
-    (record { reserved_stay = λ y u. refl; known_stay = λ b y u o. o; set = λ y u. refl })
-    (front_of num (ask ++ last') l1) (reached_holds r1) in
+    let r2 = signs.comes told h c1 (reached r1) (front_of num (ask ++ last') l1) (reached_holds r1) in
     let r3 = ask_comes p φ φs told place count n last c2 (reached r2) known s part' h (front_of ask last' l2)
-    (λ b. let o' = reached_holds r2 b in
-    record {
-      pc = o'.pc;
-      holds = record { body = o'.holds.body; regs = (o'.holds.regs.0 ∙ word_is signature number', o'.holds.regs.1) };
-    }) in
-    let r4 = storing_comes p φ φs one signature place count n last (c2 + size_of ask) (reached r3) known1 number' part' h
+    (reached_holds r2) in
+    let r4 = storing_comes p φ φs one place count n last (c2 + size_of ask) (reached r3) known1 number' signs part' h
     (back_of ask last' l2) (reached_holds r3) in
     reach_map _ (reach_moved (omega (arith, size, n0, n1, n2)) (omega (arith, size, n0, n1, n2))
     (reach_then r1 (reach_then r2 (reach_then r3 r4))))

@@ -25,7 +25,7 @@ use Rattle.pli_coding.specs.Frames.{MemoryParts, automatic_place, display, own_o
 use Rattle.pli_coding.specs.Instructions.{is_immediate, load_word, number, plus, small, status_tested}
 use Rattle.pli_coding.specs.Instructions.{tested_service}
 use Rattle.pli_coding.specs.Locating.{FrameName, KnownNumber, may_refer, own_signature, table_number}
-use Rattle.pli_coding.specs.Registers.{a0, a1, a2, a7, frame_register}
+use Rattle.pli_coding.specs.Registers.{a0, a1, a2, a7, frame_register, u1}
 use Rattle.pli_coding.specs.SignatureTable.{is_open, signature_of}
 use Rattle.activation_relation.specs.FrameLaws.{with_waits}
 use Rattle.activation_relation.specs.Frames.{AreLaid, FramesStand, frame_under}
@@ -63,7 +63,8 @@ use Rattle.list_calls.specs.Arguments.{Passes, name_code}
 use Rattle.list_calls.specs.Lists.{Told, name_told}
 use Rattle.list_calls.specs.Passed.{HasTold, IsNamed}
 use Rattle.list_calls.proofs.ListGiving.{told_again, told_itself}
-use Rattle.list_calls.proofs.NamePassing.{Finds, HasNameAt, name_passed, passing_code, place_code, storing_code}
+use Rattle.list_calls.proofs.NamePassing.{Finds, HasNameAt, name_passed, passing_code, place_code, signs_known}
+use Rattle.list_calls.proofs.NamePassing.{storing_code}
 
 -- ---- where the name stands
 
@@ -206,7 +207,7 @@ code_by e place count n x q o same =
       name = FrameName x.level (pos (automatic_place e.parts e.program x.block x.level x.index));
       number = KnownNumber (signature_as e o);
     }) (refers o)))))
-    ++ storing_code (signature_as e o) place count n
+    ++ storing_code (number u1 (signature_as e o)) place count n
 
 coded :
     (e : Environment) (taken all place count n : ℕ) (x : Spot) (signature : ℕ) {initial : _} →
@@ -214,7 +215,7 @@ coded :
     table_number e (number_declared initial) ≡ signature →
     name_code e taken all place count n (variable_of x)
     ≡ passing_code (name_by (x.level == e.level) x.level (automatic_place e.parts e.program x.block x.level x.index))
-    signature place count n
+    (number a1 signature) (number u1 signature) place count n
 coded e taken all place count n x signature {initial} declared table =
     let q = x.level == e.level in
     let o = declared_variable e.program (variable_of x) in
@@ -223,12 +224,12 @@ coded e taken all place count n x signature {initial} declared table =
     ∙ ap (λ u. code_by e place count n x q u true) declared
     ∙ ap (λ m. plain first m) table
     ∙ joined first (number a1 signature) (place_code place count n)
-    (small a7 9 ∷ (Plain I.Ecall ∷ status_tested)) (storing_code signature place count n)
+    (small a7 9 ∷ (Plain I.Ecall ∷ status_tested)) (storing_code (number u1 signature) place count n)
   where
     plain : Code → ℕ → Code
     plain first m =
         (first ++ (number a1 m ++ (place_code place count n ++ (small a7 9 ∷ (Plain I.Ecall ∷ status_tested)))))
-        ++ storing_code m place count n
+        ++ storing_code (number u1 m) place count n
 
     joined :
         (first num put ask last : Code) →
@@ -329,7 +330,8 @@ variables_passed k x φ φs serial signature begun newest is =
           let eq = coded k.block.environment taken all place count n x signature is.number.declared is.table in
           let l' = subst (Linked w.links k.block.call.code index) eq l in
           let r = name_passed p φ φs told place count n last credits index f (o'.stands, o'.image)
-          (finds k {x = x} {numbers = numbers} p told begun newest is o') part' l'
+          (finds k {x = x} {numbers = numbers} p told begun newest is o')
+          (signs_known k.block.call.surroundings k.block.call.code p φ φs _ signature is.small) part' l'
           (λ b. told_itself (with_waits told φ ∷ φs) here (there b)) in
           subst (λ c. Reach k.block.call.code credits f (services_of p) (credits + size_of c)
           (services_of (with_list (name_told last serial signature 0 told) φ φs p))
@@ -337,13 +339,13 @@ variables_passed k x φ φs serial signature begun newest is =
           (sym eq)
           (subst (λ v. Reach k.block.call.code credits f v
           (credits + size_of (passing_code (name_by (x.level == k.block.environment.level) x.level
-          (automatic_place k.block.environment.parts k.block.environment.program x.block x.level x.index)) signature
-          place count n))
+          (automatic_place k.block.environment.parts k.block.environment.program x.block x.level x.index))
+          (number a1 signature) (number u1 signature) place count n))
           (services_of (with_list (name_told last serial signature 0 told) φ φs p))
           (λ b y. IsIn w (with_list (name_told last serial signature 0 told) φ φs p) numbers
           (index + size_of (passing_code (name_by (x.level == k.block.environment.level) x.level
-          (automatic_place k.block.environment.parts k.block.environment.program x.block x.level x.index)) signature
-          place count n)) b y))
+          (automatic_place k.block.environment.parts k.block.environment.program x.block x.level x.index))
+          (number a1 signature) (number u1 signature) place count n)) b y))
           (ap (λ ls. services_of (layered ls p)) (sym here)) r);
       means = λ told p numbers o.
           let block' = telling told φ φs k.block in

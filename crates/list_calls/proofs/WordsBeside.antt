@@ -24,13 +24,13 @@ use Rattle.run_steps.specs.Reach.{Reach}
 use Rattle.block_runs.specs.Bodies.{Function}
 use Rattle.block_runs.specs.Machines.{IsImage, IsIn}
 use Rattle.program_runs.specs.Variables.{Declared, generation_for}
-use Rattle.variable_runs.specs.Lists.{AreListed, all_made, behind_made, first_all, layer_after, layer_behind, made_code}
+use Rattle.variable_runs.specs.Lists.{AreListed, all_made, behind_made, first_all, layer_after, layer_behind}
 use Rattle.variable_runs.specs.Lists.{made_now, newest_all}
 use Rattle.variable_runs.proofs.Lists.{Binds, all_come, all_mean, all_remain, all_serials, all_stand, all_world}
 use Rattle.variable_runs.proofs.Lists.{block_means, changed_in, layer_resumed, layers_after}
 use Rattle.argument_runs.specs.ListCalls.{entered_point}
 use Rattle.list_calls.specs.Lists.{bindings_with, bound_layer}
-use Rattle.list_calls.specs.Taking.{AreBeside, ListCall, act_index, bound_point, bound_waits, called_of, giving_of}
+use Rattle.list_calls.specs.Taking.{AreBeside, ListCall, act_index, bound_point, bound_waits, giving_of}
 use Rattle.list_calls.specs.Taking.{listed_layer, variables_index}
 use Rattle.list_calls.specs.WordsBeside.{AreAllBeside}
 use Rattle.list_calls.proofs.Bound.{all_bound}
@@ -131,7 +131,8 @@ words_beside g y first xs h =
     let more = all_bind_more w e q φ xs a as' bs first first h.listed (omega arith)
     (record { bindings = bs; active = b.activations; others = λ i less. refl }) in
     let remain : (p : Point) → length p.state.activations ≤ length as' → Stands w q → Remains p q → Remains p r =
-    λ p low stands remains. all_remain w p q φ φs xs a as' h.declared binds (omega (arith, low)) stands.lives remains in
+    λ p low stands remains. all_remain w y.code p q φ φs xs a as' h.declared binds (omega (arith, low)) stands.lives
+    remains in
     let count = all_serials w q φ xs in
     let each = h.few in
     let serials = b.serials in
@@ -149,7 +150,7 @@ words_beside g y first xs h =
           h.parts known (subst (Linked w.links y.code (variables_index y.callee)) h.code l) there));
       means = block_means (at_line y.callee.around y.callee.procedure.head.line) y.callee.procedure.head w.acts q.state
           r.state h.kind
-          (all_mean (at_line y.callee.around y.callee.procedure.head.line) w e q φ φs xs
+          (all_mean (at_line y.callee.around y.callee.procedure.head.line) w y.code e q φ φs xs
           (variables_of_block y.callee.around.program y.callee.procedure.head.number) 0 first w.acts h.declared h.listed
           h.those)
           ∙ ap (λ (u : Point). Normal tt u.state) (sym here);

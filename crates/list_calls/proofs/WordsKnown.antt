@@ -1,18 +1,14 @@
 -- The variables behind the parameters of a procedure in its own block: each lives since it was made, and stands where
 -- the frame ended then.
-use Rattle.std.proofs.Common.{◌≡◌, ◌≢◌, ℕ, ◌+◌, ◌*◌, ◌^◌, ◌<◌, ◌≤◌, inl, inr, List, [], ◌∷◌, Some, refl, sym, ap}
+use Rattle.std.proofs.Common.{◌≡◌, ℕ, ◌+◌, ◌*◌, ◌^◌, ◌≤◌, inl, List, [], ◌∷◌, Some, refl, sym, ap}
 use Rattle.std.proofs.Common.{◌∙◌, Option, subst, arith}
 use Rattle.std.proofs.lemmas.Bool.{eq-eqb}
-use Rattle.std.specs.Prelude.{◌==◌, cond}
 use Rattle.pli_typing.specs.Signatures.{data_size}
 use Rattle.pli_meaning.specs.BasicValues.{VariableName}
 use Rattle.pli_meaning.specs.DeclaredShapes.{shape_of}
-use Rattle.pli_meaning.specs.Making.{living_at, with_binding}
-use Rattle.pli_meaning.specs.StorageState.{Activation, Binding, Living, ancestor, binding_in, binding_of}
+use Rattle.pli_meaning.specs.StorageState.{Activation, ancestor, binding_in, binding_of}
 use Rattle.pli_meaning.specs.StorageState.{living_of, newest_height}
-use Rattle.pli_coding.specs.Environments.{Environment}
-use Rattle.pli_coding.specs.Frames.{MemoryParts, name_bytes}
-use Rattle.storage_relation.proofs.Holders.{eqb-other}
+use Rattle.pli_coding.specs.Frames.{name_bytes}
 use Rattle.activation_relation.specs.FrameLaws.{with_waits}
 use Rattle.activation_relation.specs.Frames.{AreLaid, frame_under}
 use Rattle.activation_relation.specs.Layers.{Layer, Point}
@@ -21,141 +17,18 @@ use Rattle.block_runs.specs.Bodies.{Function}
 use Rattle.block_runs.specs.Machines.{HasParts}
 use Rattle.block_runs.proofs.Places.{Bounds, bounds}
 use Rattle.program_runs.specs.Statements.{IsBegun}
-use Rattle.program_runs.specs.Variables.{Declared, generation_for}
+use Rattle.program_runs.specs.Variables.{Declared}
 use Rattle.expression_runs.specs.Variables.{Spot}
 use Rattle.variable_runs.specs.Known.{IsKnown}
-use Rattle.variable_runs.specs.Lists.{Among, AreDeclared, AreListed, Declares, all_made, behind_made, first_all}
-use Rattle.variable_runs.specs.Lists.{layer_after, layer_behind, newest_all}
-use Rattle.variable_runs.proofs.Lists.{Binds, layers_after}
+use Rattle.variable_runs.specs.Lists.{Among, all_made, first_all, layer_after, newest_all}
+use Rattle.variable_runs.proofs.Known.{Has, has_each, layer_stays, newest_has}
+use Rattle.variable_runs.proofs.Lists.{layers_after}
 use Rattle.argument_runs.specs.ListCalls.{entered_point}
 use Rattle.list_calls.specs.Lists.{bindings_with, bound_layer}
 use Rattle.list_calls.specs.Taking.{ListCall, bound_point, bound_waits, giving_of, list_block, listed_layer}
 use Rattle.list_calls.specs.WordsBeside.{AreAllBeside, IsOwnBeside}
 use Rattle.list_calls.proofs.Bound.{AreBound, all_bound}
 use Rattle.list_calls.proofs.ListBlocks.{activation_in, caller_of}
-
--- ---- at a point
-
--- the newest activation has it: its frame is at an offset, and its part of the upper stack ends below another
-record Has (q : Point) (at lower : ℕ) (a : Activation) (as' : List Activation) (d : Declared) : Type 0 where
-  serial : ℕ
-  given : serial ≤ q.state.serials
-  binds : Binds q a as'
-  bound :
-      binding_of binds.bindings d.index
-      ≡ Some (record { variable = d.index; name = VariableName serial; shape = shape_of [] d.declared })
-  living : Living
-  lives : living_of q.state.living serial ≡ Some living
-  shape : living.generation.shape ≡ shape_of [] d.declared
-  place : q.places.at serial ≡ at + (d.place + name_bytes)
-  inside : at + (d.place + name_bytes + data_size (shape_of [] d.declared).signature) ≤ lower
-
--- where it has just been made
-has_new :
-    (w : Surroundings) (p : Point) (φ : Layer) (φs : List Layer) (a : Activation) (as' : List Activation)
-    (d : Declared) → Binds p a as' → Declares w p d φ φs →
-    Has (behind_made w.parts φ d p) φ.at φ.lower a as' d
-has_new w p φ φs a as' d binds is =
-    let serial = p.state.serials + 1 in
-    let b : Binding = record {
-      variable = d.index;
-      name = VariableName serial;
-      shape = (generation_for d).shape;
-    } in
-    let living = living_at serial (newest_height p.state.activations) (generation_for d) in
-    record {
-      serial = serial;
-      given = omega arith;
-      binds = record { bindings = b ∷ binds.bindings; active = ap (λ us. with_binding b us) binds.active };
-      bound = ap (λ t. cond t (Some b) (binding_of binds.bindings d.index)) (eq-eqb d.index d.index refl);
-      living = living;
-      lives = ap (λ t. cond t (Some living) (living_of p.state.living serial)) (eq-eqb serial serial refl);
-      shape = refl;
-      place = ap (λ t. cond t (φ.at + (d.place + name_bytes)) (p.places.at serial)) (eq-eqb serial serial refl);
-      inside = inside is;
-    }
-  where
-    inside :
-        Declares w p d φ φs →
-        φ.at + (d.place + name_bytes + data_size (shape_of [] d.declared).signature) ≤ φ.lower
-    inside (inl h) = let size = h.size in let fits = h.fits in omega (arith, size, fits)
-    inside (inr h) = let size = h.size in let fits = h.fits in omega (arith, size, fits)
-
--- it has it still where another has been made
-has_still :
-    (w : Surroundings) (p : Point) (φ : Layer) (at lower : ℕ) (a : Activation) (as' : List Activation)
-    (d y : Declared) → d.index < y.index → Has p at lower a as' d →
-    Has (behind_made w.parts φ y p) at lower a as' d
-has_still w p φ at lower a as' d y less h =
-    let serial = p.state.serials + 1 in
-    let given = h.given in
-    let b : Binding = record {
-      variable = y.index;
-      name = VariableName serial;
-      shape = (generation_for y).shape;
-    } in
-    let living = living_at serial (newest_height p.state.activations) (generation_for y) in
-    let other : serial ≢ h.serial = λ e. omega (arith, e, given) in
-    let other' : h.serial ≢ serial = λ e. omega (arith, e, given) in
-    record {
-      serial = h.serial;
-      given = omega (arith, given);
-      binds = record { bindings = b ∷ h.binds.bindings; active = ap (λ us. with_binding b us) h.binds.active };
-      bound = ap (λ t. cond t (Some b) (binding_of h.binds.bindings d.index))
-          (eqb-other y.index d.index (λ e. omega (arith, e, less))) ∙ h.bound;
-      living = h.living;
-      lives = ap (λ t. cond t (Some living) (living_of p.state.living h.serial)) (eqb-other serial h.serial other)
-          ∙ h.lives;
-      shape = h.shape;
-      place = ap (λ t. cond t (φ.at + (y.place + name_bytes)) (p.places.at h.serial)) (eqb-other h.serial serial other')
-          ∙ h.place;
-      inside = h.inside;
-    }
-
-has_kept :
-    (w : Surroundings) (e : Environment) (p : Point) (φ : Layer) (at lower : ℕ) (a : Activation)
-    (as' : List Activation) (d : Declared) (xs : List Declared) (n : ℕ) → d.index < n → AreListed e n xs →
-    Has p at lower a as' d → Has (all_made w.parts φ xs p) at lower a as' d
-has_kept w e p φ at lower a as' d [] n less listed h = h
-has_kept w e p φ at lower a as' d (y ∷ xs) n less listed h =
-    let late = listed.0.late in
-    has_kept w e (behind_made w.parts φ y p) (layer_behind w.parts (p.state.serials + 1) φ y) at lower a as' d xs
-    (y.index + 1) (omega (arith, less, late)) listed.1
-    (has_still w p φ at lower a as' d y (omega (arith, less, late)) h)
-
--- so it has each of them
-has_each :
-    (w : Surroundings) (e : Environment) (p : Point) (φ : Layer) (φs : List Layer) (a : Activation)
-    (as' : List Activation) (d : Declared) (xs : List Declared) (n : ℕ) → AreListed e n xs →
-    AreDeclared w p φ φs xs → Binds p a as' → Among d xs → Has (all_made w.parts φ xs p) φ.at φ.lower a as' d
-has_each w e p φ φs a as' d [] n listed are binds among = absurd among
-has_each w e p φ φs a as' d (x ∷ xs) n listed are binds (inl same) =
-    subst (λ y. Has (all_made w.parts φ (x ∷ xs) p) φ.at φ.lower a as' y) (sym same)
-    (has_kept w e (behind_made w.parts φ x p) (layer_behind w.parts (p.state.serials + 1) φ x) φ.at φ.lower a as' x
-    xs (x.index + 1) (omega arith) listed.1 (has_new w p φ φs a as' x binds are.0))
-has_each w e p φ φs a as' d (x ∷ xs) n listed are binds (inr there) =
-    let new = has_new w p φ φs a as' x binds are.0 in
-    has_each w e (behind_made w.parts φ x p) (layer_behind w.parts (p.state.serials + 1) φ x) φs a as' d xs
-    (x.index + 1) listed.1 are.1 new.binds there
-
--- ---- in its block
-
--- the newest activation's own
-newest_has :
-    (a : Activation) (as' : List Activation) (bindings : List Binding) (level index : ℕ) → level ≡ a.level →
-    binding_in (ancestor (record a { bindings = bindings } ∷ as') a.height level) index ≡ binding_of bindings index
-newest_has a as' bindings level index own =
-    let new : Activation = record a { bindings = bindings } in
-    let rest = ancestor as' a.parent level in
-    ap (λ t. binding_in (cond t (cond (a.level == level) (Some new) rest) (ancestor as' a.height level)) index)
-    (eq-eqb a.height a.height refl)
-    ∙ ap (λ t. binding_in (cond t (Some new) rest) index) (eq-eqb a.level level (sym own))
-
-layer_stays :
-    (parts : MemoryParts) (serial : ℕ) (φ : Layer) (xs : List Declared) →
-    ((layer_after parts serial φ xs).at ≡ φ.at) × ((layer_after parts serial φ xs).lower ≡ φ.lower)
-layer_stays parts serial φ [] = (refl, refl)
-layer_stays parts serial φ (x ∷ xs) = layer_stays parts (serial + 1) (layer_behind parts serial φ x) xs
 
 pub beside_known :
     (g : Option Function) (y : ListCall) (start : ℕ) (xs : List Declared) (d : Declared) (x : Spot) →
@@ -220,7 +93,7 @@ beside_known g y start xs d x parts h among own b =
 
     has : Has (all_made w.parts φ xs q) φ.at φ.lower a as' d
     has =
-        has_each w y.callee.environment q φ φs a as' d xs start h.listed h.declared
+        has_each w y.code y.callee.environment q φ φs a as' d xs start h.listed h.declared
         (record {
           bindings = bindings_with y.point.state.serials y.callee.parameters y.passed [];
           active = bound.activations;

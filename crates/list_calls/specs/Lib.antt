@@ -7,3 +7,4 @@ pub mod ListKnown
 pub mod Passed
 pub mod ListRows
 pub mod WordsBeside
+pub mod Telling

@@ -1,5 +1,5 @@
--- Variables that may be passed by reference: those of the block itself and of the blocks around it, whose names stand
--- before their data.
+-- What may be passed by reference: variables of the block itself and of the blocks around it, whose names stand before
+-- their data, and the block's own parameters.
 use Rattle.std.specs.Prelude.{ℕ, ◌^◌, ◌<◌, ◌≡◌, ◌⊎◌, List, [], ◌∷◌, Some}
 use Rattle.pli_serving.specs.Templates.{shape_at}
 use Rattle.pli_coding.specs.Frames.{automatic_place}
@@ -8,7 +8,7 @@ use Rattle.activation_relation.specs.Layers.{Layer}
 use Rattle.program_runs.specs.Statements.{Block, IsBegun}
 use Rattle.expression_runs.specs.Values.{Setting}
 use Rattle.expression_runs.specs.Variables.{IsNumber, Spot, number_declared, variable_of}
-use Rattle.argument_runs.specs.Parameters.{parameter_shape}
+use Rattle.argument_runs.specs.Parameters.{IsParameter, parameter_of, parameter_shape}
 use Rattle.reference_runs.specs.References.{IsTold, Reference}
 use Rattle.list_calls.specs.Arguments.{Passes}
 
@@ -33,9 +33,27 @@ pub record IsNamed (k : Block) (x : Spot) (serial signature : ℕ) : Type 0 wher
   pub small : signature < 2 ^ 31
   pub few : serial < 2 ^ 64
 
+-- it is a number, whose name is told of the frame that it stands in
+pub record IsTelling (k : Block) (x : Spot) : Type 0 where
+  pub number : IsNumber k x
+  pub told :
+      HasTold k.first.control.layers number.base
+      (record {
+        serial = number.serial;
+        signature = 0;
+        place = automatic_place k.environment.parts k.environment.program x.block x.level x.index;
+      })
+
 -- its name may be passed
 abbrev pub VariablesPassed : Type 0
 VariablesPassed =
     (k : Setting) (x : Spot) (φ : Layer) (φs : List Layer) (serial signature : ℕ) → IsBegun k.block →
     k.block.first.control.layers ≡ φ ∷ φs → IsNamed k.block x serial signature →
     Passes k φ φs (variable_of x) serial signature
+
+-- so may that of what a parameter of the block itself stands for, which stands in its list
+abbrev pub ParametersPassed : Type 0
+ParametersPassed =
+    (k : Setting) (x : Spot) (φ : Layer) (φs : List Layer) → IsBegun k.block →
+    k.block.first.control.layers ≡ φ ∷ φs → (is : IsParameter k.block x) →
+    Passes k φ φs (parameter_of x) is.serial is.signature

@@ -9,12 +9,12 @@ use Rattle.program_runs.specs.Statements.{IsBegun}
 use Rattle.program_runs.specs.Variables.{Declared}
 use Rattle.expression_runs.specs.Variables.{Spot, variable_of}
 use Rattle.variable_runs.specs.Known.{IsKnown, place_of}
-use Rattle.variable_runs.specs.Lists.{Among, AreDeclared, AreListed, AreThose, made_code, newest_all}
+use Rattle.variable_runs.specs.Lists.{AllMayBegin, Among, AreListed, AreThose, made_code, newest_all}
 use Rattle.list_calls.specs.Lists.{Parameter, bound_layer, copies_in}
 use Rattle.list_calls.specs.Taking.{AreBeside, ListCall, Taking, bound_point, bound_waits, list_block, listed_layer}
 
--- the program declares them so, each behind the parameters; the procedure's code is that, and as many serials come with
--- an act
+-- the program declares them so, each behind the parameters; the procedure's code is that, and as many serials may come
+-- between two acts as there are of them and of copies
 pub record AreAllBeside (g : Option Function) (y : ListCall) (first : ℕ) (xs : List Declared) : Type 0 where
   pub kind : y.callee.procedure.head.kind ≡ Y.ProcedureBlock
   pub those : AreThose 0 xs (variables_of_block y.callee.around.program y.callee.procedure.head.number)
@@ -25,7 +25,7 @@ pub record AreAllBeside (g : Option Function) (y : ListCall) (first : ℕ) (xs :
   pub many : length y.callee.parameters ≡ length y.passed
   pub few : copies_in y.passed + length xs ≤ y.surroundings.serials
   pub declared :
-      AreDeclared y.surroundings (bound_point g y) (bound_layer y.callee.parameters y.passed (listed_layer y))
+      AllMayBegin y.surroundings y.code (bound_point g y) (bound_layer y.callee.parameters y.passed (listed_layer y))
       (with_waits (bound_waits y) y.layer ∷ y.others) xs
 
 -- they are made as they are meant, and the parameters stand for what they stood for

@@ -4,8 +4,9 @@ ghost use Rattle.list_calls.specs.ListCalls.{ListCallsDo};
 ghost use Rattle.list_calls.specs.ListFunctions.{ListFunctionsDo};
 ghost use Rattle.list_calls.specs.ListKnown.{ListsKnown};
 ghost use Rattle.list_calls.specs.ListRows.{ListRan};
-ghost use Rattle.list_calls.specs.Passed.{VariablesPassed};
+ghost use Rattle.list_calls.specs.Passed.{ParametersPassed, VariablesPassed};
 ghost use Rattle.list_calls.specs.Taking.{NoneBeside};
+ghost use Rattle.list_calls.specs.Telling.{NamesKnown};
 ghost use Rattle.list_calls.specs.WordsBeside.{BesideKnown, WordsBeside};
 
 use run_keeper::laws::run_keeper_keeps;
@@ -30,6 +31,16 @@ pub fn lists_known()
 /// A variable of the block, or of one around it, may be passed by reference.
 pub fn variables_passed()
     ensures { VariablesPassed }
+{}
+
+/// So may the parameters of the block, whose names stand in its list.
+pub fn parameters_passed()
+    ensures { ParametersPassed }
+{}
+
+/// The frames of blocks tell the names of the numbers that they make, also in what is called from them.
+pub fn names_known()
+    ensures { NamesKnown }
 {}
 
 /// One that declares nothing beside its parameters makes nothing behind them.

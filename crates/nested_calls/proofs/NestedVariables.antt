@@ -241,34 +241,52 @@ over_stays {k} {inner} {level} {p = p} n serial base living i nest b o within le
         ∙ ap (λ a. frame_at inner.first.control.layers (height_of a)) (sym same)
 
 -- its code looks for one at the same place
-same_place :
+pub same_place :
     (e f : Environment) (x : Spot) → e.program ≡ f.program → e.parts ≡ f.parts → place_of e x ≡ place_of f x
 same_place e f x program parts =
     ap (λ y. place_of (record e { program = y }) x) program ∙ ap (λ y. place_of (record f { parts = y }) x) parts
+
+-- a number of a level around is one there, with the same serial number, in the same frame
+pub record Again (inner : Block) (x : Spot) (serial base : ℕ) : Type 0 where
+  pub number : IsNumber inner x
+  pub serial_is : number.serial ≡ serial
+  pub base_is : number.base ≡ base
+
+pub over_again :
+    {k inner : Block} {level : ℕ} {numbers : ℕ → ℕ} {p : Point} (x : Spot) → Over k inner level p → IsNested k →
+    IsBegun k → IsAmong k numbers p → level ≤ k.environment.level → x.level ≤ level →
+    inner.environment.program ≡ k.environment.program → inner.environment.parts ≡ k.environment.parts →
+    (is : IsNumber k x) → Again inner x is.serial is.base
+over_again {k} {inner} x i nest b o within less program parts is =
+    let s = over_stays x.level is.serial is.base is.living i nest b o within less is.lives is.frame in
+    let place : number_place inner.environment x ≡ number_place k.environment x =
+    ap (λ n. n + 16 + 0) (same_place inner.environment k.environment x program parts) in
+    record {
+      number = record {
+        initial = is.initial;
+        declared = ap (λ y. declared_variable y (variable_of x)) program ∙ is.declared;
+        serial = is.serial;
+        binding = ap (λ a. binding_in a x.index) s.same ∙ is.binding;
+        living = s.on.there;
+        lives = s.on.lives;
+        shape = s.on.shape ∙ is.shape;
+        base = is.base;
+        frame = s.frame;
+        at = s.moved ∙ is.at ∙ ap (λ n. is.base + n) (sym place);
+        low = subst (λ n. 2 ^ 22 ≤ is.base + n) (sym place) is.low;
+        inside = subst (λ n. is.base + n + 4 ≤ 15 * 2 ^ 20) (sym place) is.inside;
+      };
+      serial_is = refl;
+      base_is = refl;
+    }
 
 pub over_number :
     {k inner : Block} {level : ℕ} {numbers : ℕ → ℕ} {p : Point} (x : Spot) → Over k inner level p → IsNested k →
     IsBegun k → IsAmong k numbers p → level ≤ k.environment.level → x.level ≤ level →
     inner.environment.program ≡ k.environment.program → inner.environment.parts ≡ k.environment.parts → IsNumber k x →
     IsNumber inner x
-over_number {k} {inner} x i nest b o within less program parts is =
-    let s = over_stays x.level is.serial is.base is.living i nest b o within less is.lives is.frame in
-    let place : number_place inner.environment x ≡ number_place k.environment x =
-    ap (λ n. n + 16 + 0) (same_place inner.environment k.environment x program parts) in
-    record {
-      initial = is.initial;
-      declared = ap (λ y. declared_variable y (variable_of x)) program ∙ is.declared;
-      serial = is.serial;
-      binding = ap (λ a. binding_in a x.index) s.same ∙ is.binding;
-      living = s.on.there;
-      lives = s.on.lives;
-      shape = s.on.shape ∙ is.shape;
-      base = is.base;
-      frame = s.frame;
-      at = s.moved ∙ is.at ∙ ap (λ n. is.base + n) (sym place);
-      low = subst (λ n. 2 ^ 22 ≤ is.base + n) (sym place) is.low;
-      inside = subst (λ n. is.base + n + 4 ≤ 15 * 2 ^ 20) (sym place) is.inside;
-    }
+over_number {k} {inner} {numbers = numbers} x i nest b o within less program parts is =
+    (over_again {k = k} {inner = inner} {numbers = numbers} x i nest b o within less program parts is).number
 
 pub over_known :
     {k inner : Block} {level : ℕ} {numbers : ℕ → ℕ} {p : Point} (x : Spot) (d : Y.DeclaredVariable) →
@@ -296,7 +314,7 @@ over_known {k} {inner} x d i nest b o within less program parts is =
 
 -- ---- what is called
 
-procedure_over :
+unfoldable pub procedure_over :
     (k : Block) (c : Callee) (level : ℕ) → IsInside k c level → (p : Point) (numbers : ℕ → ℕ) → IsAmong k numbers p →
     AreMade k.call.surroundings k.call.code c p numbers →
     IsBegun (block_at k.call.surroundings k.call.code c p numbers) →
@@ -326,7 +344,7 @@ procedure_over k c level h p numbers o made b =
       few = subst (λ n. n < most_levels) h.inner h.few;
     }
 
-function_over :
+unfoldable pub function_over :
     (k : Block) (c : Callee) (level : ℕ) → IsInside k c level → (p : Point) (numbers : ℕ → ℕ) → IsAmong k numbers p →
     AreMade k.call.surroundings k.call.code c p numbers →
     IsBegun (function_block k.call.surroundings k.call.code c p numbers) →

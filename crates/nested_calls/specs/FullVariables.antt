@@ -3,7 +3,7 @@ use Rattle.std.specs.Prelude.{ℕ, ◌+◌, ◌^◌, ◌<◌, ◌≤◌, ◌≡�
 use Rattle.rv_meaning.specs.declared.instr.Instr.{Instr}
 use Rattle.pli_meaning.specs.Contents.{footprint_of}
 use Rattle.pli_meaning.specs.Control.{finish}
-use Rattle.pli_meaning.specs.DeclaredShapes.{initial_of, shape_of}
+use Rattle.pli_meaning.specs.DeclaredShapes.{shape_of}
 use Rattle.pli_meaning.specs.Executing.{block_variables_made}
 use Rattle.pli_meaning.specs.Raising.{at_line}
 use Rattle.pli_meaning.specs.StorageState.{State, automatic_in_use, most_automatic}
@@ -11,7 +11,6 @@ use Rattle.pli_meaning.specs.World.{ending}
 use Rattle.pli_meaning.specs.declared.outcome.End.{End}
 use Rattle.pli_meaning.specs.declared.outcome.End.TheVariants as E
 use Rattle.pli_meaning.specs.declared.outcome.Limit.TheVariants as L
-use Rattle.pli_serving.specs.InitialValues.{none_initial}
 use Rattle.pli_serving.specs.ServiceState.{Services}
 use Rattle.pli_serving.specs.Templates.{shape_at}
 use Rattle.pli_coding.specs.Assembly.{size_of}
@@ -19,13 +18,13 @@ use Rattle.pli_coding.specs.Entries.{constant_made}
 use Rattle.pli_coding.specs.Environments.{Environment}
 use Rattle.pli_coding.specs.Frames.{name_bytes}
 use Rattle.pli_coding.specs.Locating.{table_number}
-use Rattle.pli_coding.specs.StaticForms.{initial_datum}
 use Rattle.activation_relation.specs.Layers.{Layer, Point, services_of}
 use Rattle.activation_relation.specs.Points.{Stands, Surroundings}
 use Rattle.run_steps.specs.Items.{Linked}
 use Rattle.run_steps.specs.Reach.{Ending, Family, Pausing, cost}
 use Rattle.block_runs.specs.Machines.{AreIn, IsImage}
 use Rattle.program_runs.specs.Calls.{Callee, begun_at, variables_index}
+use Rattle.program_runs.specs.Initial.{Begins}
 use Rattle.program_runs.specs.Variables.{Declared, generation_for}
 
 -- ---- the end of a run
@@ -42,19 +41,20 @@ pub record Over (code : List Instr) (credits : ℕ) (f : Family) (v : Services) 
 -- ---- one variable
 
 -- as it is declared, in the newest block, where it passes the limit
-pub record PassesLimit (p : Point) (x : Declared) (φ : Layer) (φs : List Layer) : Type 0 where
+pub record PassesLimit (w : Surroundings) (code : List Instr) (p : Point) (x : Declared) (φ : Layer) (φs : List Layer) :
+    Type 0 where
   pub newest : p.control.layers ≡ φ ∷ φs
   pub inside : φ.at + (x.place + name_bytes) < 2 ^ 24
   pub shape : shape_at p.places.signatures x.number ≡ Some (shape_of [] x.declared)
   pub number : x.number < 2 ^ 31
-  pub initial : initial_datum x.declared ≡ None
-  pub none : none_initial (shape_of [] x.declared).signature.leaves ≡ initial_of x.declared
+  pub initial : Begins p.places.constants code w.links.data' x.declared
   pub limit : nat_le (automatic_in_use p.state.living + footprint_of (generation_for x)) most_automatic ≡ false
 
 abbrev pub VariablesEnd : Type 0
 VariablesEnd =
     (w : Surroundings) (code : List Instr) (e : Environment) (p : Point) (numbers : ℕ → ℕ) (x : Declared) (φ : Layer)
-    (φs : List Layer) (credits index : ℕ) (f : Family) → Stands w p × IsImage w code p → PassesLimit p x φ φs →
+    (φs : List Layer) (credits index : ℕ) (f : Family) → Stands w p × IsImage w code p →
+    PassesLimit w code p x φ φs →
     (table_number e x.declared ≡ x.number) × (e.parts ≡ w.parts) →
     (credits + size_of (constant_made e x.place x.declared) ≤ cost code) × (w.acts + 1 < 2 ^ 64) →
     Linked w.links code index (constant_made e x.place x.declared) → AreIn w p numbers index f →

@@ -34,7 +34,7 @@ use Rattle.number_headlines.proofs.Mains.{Main, most_for}
 use Rattle.number_headlines.proofs.Running.{IsEntered, Running, block_of_run}
 
 -- one of those whose signatures the table has
-tabled_at :
+pub tabled_at :
     (e : Environment) (signatures : List Template) (ds : List Y.DeclaredVariable) (i : ℕ) (d : Y.DeclaredVariable) →
     AreTabled e signatures ds → slice_get ds i ≡ Some d → IsTabled e signatures d
 tabled_at e signatures [] i d h is = absurd (cc is)

@@ -159,7 +159,7 @@ puts_of once {program} m input acts valued more a blocks few h =
     let k = block_of_run program input acts valued more a in
     puts_known (scope_of program m.called a.head a.body) k (most_for program) h.begun
     (unraised_of once m input acts valued more a blocks few h) h.variables (λ may. h.arrays)
-    (λ may. h.narrows) h.parameters (λ may. constants_known program k m.memory h.told refl)
+    (λ may. h.narrows) h.parameters (λ may. absurd (cc may)) (λ may. constants_known program k m.memory h.told refl)
     (lists_known program k m.memory h.told)
 
 -- wherever limits wait in words of its frame, and texts on their stack, calls do what they mean
@@ -215,6 +215,7 @@ ready once {program} m input acts valued more a blocks few e calls given =
       arrays = λ may. h.arrays;
       narrows = λ may. h.narrows;
       parameters = h.parameters;
+      codes = λ may. absurd (cc may);
       calls = calls a.layers a.texts (labels_in a.body ++ []) h;
       based = λ may.
           based_known m input acts valued more a blocks few e (unraised_of once m input acts valued more a blocks few h)

@@ -1,5 +1,6 @@
 -- A block of the class that is called from another: its variables are made, and what is known there is known of it.
-use Rattle.std.proofs.Common.{◌≡◌, ◌⊎◌, inl, inr, ℕ, suc, ◌+◌, ◌<◌, ◌≤◌, List, [], ◌∷◌, length, Option, Bool, true}
+use Rattle.std.proofs.Common.{◌≡◌, ◌⊎◌, inl, inr, ℕ, suc, ◌+◌, ◌^◌, ◌<◌, ◌≤◌, List, [], ◌∷◌, length, Option, Bool}
+use Rattle.std.proofs.Common.{true}
 use Rattle.std.proofs.Common.{false, refl, sym, ap, ◌∙◌, subst, arith}
 use Rattle.std.specs.Prelude.{◌&&◌, ◌==◌, nat_le, nat_lt, if◌then◌else◌}
 use Rattle.std.specs.List.{list_any}
@@ -35,12 +36,12 @@ use Rattle.program_runs.specs.Procedures.{Procedure, layer_for}
 use Rattle.program_runs.specs.Starts.{image_parts}
 use Rattle.program_runs.specs.Statements.{Block, IsAmong, IsBegun}
 use Rattle.program_runs.specs.Variables.{Declared}
-use Rattle.expression_runs.specs.Variables.{IsNumber, Spot, variable_of}
+use Rattle.expression_runs.specs.Variables.{IsNumber, Spot, number_declared, variable_of}
 use Rattle.element_runs.specs.Arrays.{IsArray}
 use Rattle.scalar_runs.specs.Scalars.{IsScalar}
 use Rattle.element_runs.proofs.Outer.{outer_array}
-use Rattle.variable_runs.specs.Lists.{AreAll, all_made, behind_made, layer_after, layer_behind}
-use Rattle.variable_runs.proofs.Lists.{all_procedure}
+use Rattle.variable_runs.specs.Lists.{AreAllBegun, all_made, behind_made, layer_after, layer_behind}
+use Rattle.variable_runs.proofs.Lists.{all_begun}
 use Rattle.argument_runs.specs.Parameters.{parameter_of}
 use Rattle.block_headlines.proofs.Constants.{called_of_program}
 use Rattle.nested_calls.specs.Nested.{IsNested, parent_at}
@@ -54,10 +55,11 @@ use Rattle.number_runs.specs.Numbers.{is_array_known, is_known, is_parameter_if,
 use Rattle.number_runs.specs.Statements.{statements_set}
 use Rattle.number_runs.specs.Variables.{HasWords, HaveRoom, bytes_of, words_in}
 use Rattle.number_runs.proofs.BlocksTaken.{words_set}
-use Rattle.number_runs.proofs.Words.{all_words, function_array, function_word, own_array, own_word, room_behind}
-use Rattle.number_runs.proofs.Words.{function_narrow, own_narrow, room_fewer}
+use Rattle.number_runs.proofs.Words.{all_words, found, function_array, function_word, own_array, own_place, own_word}
+use Rattle.number_runs.proofs.Words.{function_narrow, own_narrow, room_behind, room_fewer}
 use Rattle.number_runs.proofs.Narrow.{outer_narrow}
 use Rattle.number_headlines.specs.Programs.{places_to, receivers_of, scope_of}
+use Rattle.number_headlines.proofs.Begins.{begins_at, block_begins}
 use Rattle.number_headlines.proofs.FullWords.{words_at, words_count, words_lower}
 use Rattle.number_headlines.proofs.Inner.{Inner}
 use Rattle.number_headlines.proofs.Loops.{after_waits, after_words}
@@ -67,6 +69,9 @@ use Rattle.number_headlines.proofs.Pointers.{none_holding, none_pointing}
 use Rattle.number_headlines.proofs.Running.{IsEntered, IsRunning, Running, around_for, block_of_run, free_among, run_of}
 use Rattle.number_headlines.proofs.Running.{table_later}
 use Rattle.number_headlines.proofs.Tables.{block_known, plain_block, serials_enough}
+use Rattle.number_headlines.proofs.Telling.{called_block, outer_telling_by, own_telling_by, serial_given}
+use Rattle.number_headlines.proofs.Telling.{serials_small}
+use Rattle.list_calls.specs.Passed.{IsTelling}
 
 -- ---- what is called at a point of a block
 
@@ -162,7 +167,7 @@ pub has_words :
     {p : Point} {numbers : ℕ → ℕ} (o : Moment m input acts valued (suc more) a (suc b) p numbers)
     {v : Bool} {level number : ℕ} (i : Inner m a.head [] v level number) (call : ℕ) →
     DontPass (block_of_run program input acts valued (suc more) a) i →
-    HasWords (surroundings_for program input acts)
+    HasWords (surroundings_for program input acts) (linked_code (code_for program))
     (callee_in i more (block_of_run program input acts valued (suc more) a) call) p
     numbers
 has_words {program} m {input} {acts} {valued} {more} {b} {a} {p = p} {numbers = numbers} o {v = v} i call pass =
@@ -173,7 +178,7 @@ has_words {program} m {input} {acts} {valued} {more} {b} {a} {p = p} {numbers = 
     let plain = plain_block program.variables i.head.number m.known i.own in
     record {
       kind = (known program i.head i.body (result_of v) m.loadable.well_formed i.is).kind;
-      code = refl;
+      coded = refl;
       block = refl;
       level = refl;
       program = refl;
@@ -183,6 +188,9 @@ has_words {program} m {input} {acts} {valued} {more} {b} {a} {p = p} {numbers = 
       plain = plain.plain;
       few = serials_enough program i.head.number m.known;
       tabled = table_later program o.among.later.remains o.running.tabled i.head;
+      begin = begins_at program (variables_of_block program i.head.number) p.places.constants
+          (o.among.later.remains.constants ∙ o.running.told.constants)
+          (block_begins program i.head i.body [] (result_of v) m.memory m.known i.is);
       room = room_fewer w (begun_at w c p numbers) (layer_for w p numbers c.procedure c.calling) p.control.layers
           (fixed_size i.head.level 0) n (n + 0) (omega arith) (begun_room m o i c refl pass);
     }
@@ -192,11 +200,11 @@ pub has_all :
     {p : Point} {numbers : ℕ → ℕ} (o : Moment m input acts valued (suc more) a (suc b) p numbers)
     {v : Bool} {level number : ℕ} (i : Inner m a.head [] v level number) (call : ℕ) →
     DontPass (block_of_run program input acts valued (suc more) a) i →
-    AreAll (surroundings_for program input acts)
+    AreAllBegun (surroundings_for program input acts) (linked_code (code_for program))
     (callee_in i more (block_of_run program input acts valued (suc more) a) call) p
     numbers (words_in (environment_for program i.head))
 has_all {program} m {input} {acts} {valued} {more} {a = a} {p = p} {numbers = numbers} o {v = v} i call pass =
-    all_words (surroundings_for program input acts)
+    all_words (surroundings_for program input acts) (linked_code (code_for program))
     (callee_in i more (block_of_run program input acts valued (suc more) a) call) p
     numbers (has_words m o i call pass)
 
@@ -209,7 +217,7 @@ pub are_made :
     (callee_in i more (block_of_run program input acts valued (suc more) a) call) p
     numbers
 are_made {program} m {input} {acts} {valued} {more} {a = a} {p = p} {numbers = numbers} o {v = v} i call pass =
-    all_procedure (surroundings_for program input acts) (linked_code (code_for program))
+    all_begun (surroundings_for program input acts) (linked_code (code_for program))
     (callee_in i more (block_of_run program input acts valued (suc more) a) call) p
     numbers (words_in (environment_for program i.head)) (has_all m o i call pass)
 
@@ -513,6 +521,80 @@ each_number {program} m {input} {acts} {valued} {more} {b} {a} {p} {numbers} o {
         parts.1))
     by (inr own) = own_by v m o i call pass b' x own parts.1
 
+-- the block of what is called, a procedure's or a function's
+called_so :
+    (v : Bool) {program : Y.Program} (m : Main program) (input : List ℕ) (acts : ℕ) (valued : Bool) (more : ℕ)
+    (a : Running) (p : Point) (numbers : ℕ → ℕ) {level number : ℕ} (i : Inner m a.head [] v level number) (call : ℕ) →
+    called_block v (surroundings_for program input acts) (linked_code (code_for program))
+    (callee_in i more (block_of_run program input acts valued (suc more) a) call) p numbers
+    ≡ block_of_run program input acts v more
+    (entered_at i (block_of_run program input acts valued (suc more) a) call p numbers)
+called_so false m input acts valued more a p numbers i call = refl
+called_so true m input acts valued more a p numbers i call = refl
+
+-- its name is told, of a frame around or of its own
+each_named :
+    {program : Y.Program} (m : Main program) {input : List ℕ} {acts : ℕ} {valued : Bool} {more b : ℕ}
+    {a : Running} {p : Point} {numbers : ℕ → ℕ}
+    (o : Moment m input acts valued (suc more) a (suc b) p numbers) {v : Bool} {level number : ℕ}
+    (i : Inner m a.head [] v level number) (call : ℕ)
+    (pass : DontPass (block_of_run program input acts valued (suc more) a) i)
+    (b' : IsBegun (block_of_run program input acts v more
+    (entered_at i (block_of_run program input acts valued (suc more) a) call p numbers))) (x : Spot) →
+    is_known (scope_of program m.called i.head i.body) x ≡ true →
+    (block_of_run program input acts v more
+    (entered_at i (block_of_run program input acts valued (suc more) a) call p numbers)).first.state.serials < 2 ^ 64 →
+    IsTelling (block_of_run program input acts v more
+    (entered_at i (block_of_run program input acts valued (suc more) a) call p numbers)) x
+each_named {program} m {input} {acts} {valued} {more} {b} {a} {p} {numbers} o {v} {level} i call pass b' x h small =
+    by (stands_at i x parts.0).at
+  where
+    plain : Bool
+    plain = is_plain_if (declared_variable program (variable_of x))
+
+    parts :
+        (list_any (is_place x) (places_to (environment_for program i.head) i.head.level) ≡ true) × (plain ≡ true)
+    parts = and_parts (list_any (is_place x) (places_to (environment_for program i.head) i.head.level)) plain h
+
+    k : Block
+    k = block_of_run program input acts valued (suc more) a
+
+    c : Callee
+    c = callee_in i more k call
+
+    z : Block
+    z = called_block v k.call.surroundings (linked_code (code_for program)) c p numbers
+
+    same : z ≡ block_of_run program input acts v more (entered_at i k call p numbers)
+    same = called_so v m input acts valued more a p numbers i call
+
+    begun' : IsBegun z
+    begun' = subst (λ y. IsBegun y) (sym same) b'
+
+    by :
+        ((x.level ≤ level)
+        × (list_any (is_place x) (places_to (environment_for program a.head) a.head.level) ≡ true))
+        ⊎ ((x.block ≡ i.head.number) × (x.level ≡ i.head.level)) →
+        IsTelling (block_of_run program input acts v more (entered_at i k call p numbers)) x
+    by (inl low) =
+        subst (λ y. IsTelling y x) same
+        (outer_telling_by v k c level x (is_inside m o i call) low.0
+        (o.running.named x
+        (and_from (list_any (is_place x) (places_to (environment_for program a.head) a.head.level)) plain low.1
+        parts.1))
+        p numbers o.among (are_made m o i call pass) begun')
+    by (inr own) =
+        let is = subst (λ y. IsNumber y x) (sym same) (each_number m o i call pass b' x h) in
+        let there = found (declared_variable program (variable_of x)) parts.1 in
+        let at = own_place k.call.surroundings (linked_code (code_for program)) c p numbers x
+        (number_declared there.initial) (has_words m o i call pass) own there.is in
+        let given = serial_given z x begun' is in
+        let few = subst (λ (y : Block). y.first.state.serials < 2 ^ 64) (sym same) small in
+        subst (λ y. IsTelling y x) same
+        (own_telling_by v k.call.surroundings (linked_code (code_for program)) c p numbers
+        (words_in (environment_for program i.head)) _ x (has_all m o i call pass) at.1 at.0 is
+        (omega (arith, given, few)))
+
 each_array :
     {program : Y.Program} (m : Main program) {input : List ℕ} {acts : ℕ} {valued : Bool} {more b : ℕ}
     {a : Running} {p : Point} {numbers : ℕ → ℕ}
@@ -644,6 +726,7 @@ entered once {program} m {input} {acts} {valued} {more} {b} {a} {p} {numbers} o 
     let xs = words_in (environment_for program i.head) in
     let serial = start.state.serials + 1 in
     let made = are_made m o i call pass in
+    let small = serials_small w p _ o.among.few (omega arith) made.few in
     let later = o.among.later.acts in
     let enough = o.running.enough in
     let world = ap (λ (u : World). u.acts) made.world in
@@ -689,6 +772,8 @@ entered once {program} m {input} {acts} {valued} {more} {b} {a} {p} {numbers} o 
         arrays = λ x h. each_array m o i call pass b' x h;
         narrows = λ x h. each_narrow m o i call pass b' x h;
         parameters = λ x h. absurd (none_received program m.called i.head i.body (result_of v) x i.is h);
+        named = λ x h. each_named m o i call pass b' x h small;
+        serials = small;
         unraised = λ condition. unraised_there m o i call condition;
         idle = made_idle φ xs start;
         told = called_of_program program k (block_of_run program input acts v more (entered_at i k call p numbers))

@@ -1,5 +1,5 @@
 -- What is called where its variables pass the limit on what is AUTOMATIC: making them ends the run.
-use Rattle.std.proofs.Common.{◌≡◌, ℕ, suc, ◌+◌, ◌^◌, ◌<◌, List, [], length, Bool, false, refl, ap, ◌∙◌, subst, arith}
+use Rattle.std.proofs.Common.{◌≡◌, ℕ, suc, ◌+◌, ◌^◌, ◌<◌, List, [], length, Bool, refl, ap, ◌∙◌, subst, arith}
 use Rattle.pli_typing.specs.TypedTree as Y
 use Rattle.pli_meaning.specs.DeclaredShapes.{variables_of_block}
 use Rattle.pli_meaning.specs.Executing as M
@@ -22,6 +22,7 @@ use Rattle.nested_calls.specs.FullVariables.{AreFull}
 use Rattle.number_runs.specs.Variables.{bytes_of}
 use Rattle.number_runs.proofs.Words.{places_are, words_code}
 use Rattle.number_headlines.proofs.Entered.{Moment, callee_in, inner_set}
+use Rattle.number_headlines.proofs.Begins.{begins_at, block_begins}
 use Rattle.number_headlines.proofs.FullWords.{words_over}
 use Rattle.number_headlines.proofs.Inner.{Inner}
 use Rattle.number_headlines.proofs.Mains.{Main, result_of, surroundings_for}
@@ -80,6 +81,8 @@ are_full {program} m {input} {acts} {valued} {more} {b} {a} {p} {numbers} o {v} 
     let over = words_over w code e around start numbers φ p.control.layers first 0 ds
     (record { parts = refl; acts = few }) plain.plain
     (table_later program o.among.later.remains o.running.tabled i.head)
+    (begins_at program ds p.places.constants (o.among.later.remains.constants ∙ o.running.told.constants)
+    (block_begins program head i.body [] (result_of v) m.memory m.known i.is))
     (record { activation = _; below = _; active = refl; some = omega arith })
     (record {
       newest = refl;

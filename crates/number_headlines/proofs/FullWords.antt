@@ -1,7 +1,7 @@
 -- Variables of a block of the class: what they count for in AUTOMATIC storage, and that those which pass the limit on
 -- that end the run.
-use Rattle.std.proofs.Common.{◌≡◌, ℕ, ◌+◌, ◌%◌, ◌^◌, ◌<◌, ◌≤◌, List, [], ◌∷◌, Bool, true, false}
-use Rattle.std.proofs.Common.{refl, sym, ap, ◌∙◌, subst, arith}
+use Rattle.std.proofs.Common.{◌≡◌, inl, ℕ, ◌+◌, ◌%◌, ◌^◌, ◌<◌, ◌≤◌, List, [], ◌∷◌, Bool, true, false}
+use Rattle.std.proofs.Common.{refl, ap, ◌∙◌, arith}
 use Rattle.std.specs.Prelude.{cond, nat_le, nat_lt, pos, if◌then◌else◌}
 use Rattle.std.proofs.lemmas.Bool.{and_parts, leb-true}
 use Rattle.rv_meaning.specs.declared.instr.Instr.{Instr}
@@ -27,20 +27,20 @@ use Rattle.pli_coding.specs.Frames.{MemoryParts, last_place}
 use Rattle.storage_relation.proofs.Holders.{eqb-other}
 use Rattle.activation_relation.specs.Layers.{Layer, Point, services_of}
 use Rattle.activation_relation.specs.Points.{Stands, Surroundings}
-use Rattle.activation_relation.specs.Variables.{with_made}
 use Rattle.run_steps.specs.Items.{Linked}
 use Rattle.run_steps.proofs.Jumps.{back_of, front_of}
 use Rattle.run_steps.proofs.Linking.{size_append}
-use Rattle.run_steps.specs.Reach.{Family, Reach, cost, reached}
+use Rattle.run_steps.specs.Reach.{Family, cost, reached}
 use Rattle.run_steps.proofs.Reach.{reached_holds}
-use Rattle.block_runs.specs.Machines.{AreIn, IsImage, IsIn}
-use Rattle.program_runs.specs.Variables.{Declared, IsDeclared, generation_for, made_of}
-use Rattle.program_runs.proofs.Variables.{made_becomes, variable_comes, variable_means}
-use Rattle.variable_runs.specs.Lists.{all_made, behind_made, layer_after, layer_behind, made_code, told_by}
-use Rattle.variable_runs.proofs.Lists.{next_layers}
+use Rattle.block_runs.specs.Machines.{AreIn, IsImage}
+use Rattle.program_runs.specs.Initial.{Begins, MayBeMade}
+use Rattle.program_runs.specs.Variables.{Declared, generation_for}
+use Rattle.program_runs.proofs.Variables.{started_means}
+use Rattle.variable_runs.specs.Lists.{all_made, behind_made, layer_after, layer_behind, made_code}
+use Rattle.variable_runs.proofs.Lists.{next_comes, next_layers, next_stands}
 use Rattle.nested_calls.specs.FullVariables.{Over, PassesLimit}
 use Rattle.nested_calls.proofs.FullVariables.{over_then, variable_ends}
-use Rattle.number_runs.specs.Variables.{AreTabled, HaveRoom, IsTabled, are_plain, bytes_of, is_declared}
+use Rattle.number_runs.specs.Variables.{AreTabled, EachBegins, HaveRoom, IsTabled, are_plain, bytes_of, is_declared}
 use Rattle.number_runs.specs.Variables.{variable_bytes, words_from}
 use Rattle.number_runs.proofs.Declared.{makeable, sized}
 use Rattle.number_runs.proofs.Words.{one_declared, word_made}
@@ -201,12 +201,12 @@ unfolding finish
 finish_first end k s next = finish_by (nat_lt s.world.acts k) end k s next
 
 passes :
-    (w : Surroundings) (p : Point) (φ : Layer) (φs : List Layer) (e : Environment) (place index more : ℕ)
-    (d : Y.DeclaredVariable) → is_declared d ≡ true → IsTabled e p.places.signatures d →
-    HasStack w p φ φs place (variable_bytes d + more) →
+    (w : Surroundings) (code : List Instr) (p : Point) (φ : Layer) (φs : List Layer) (e : Environment)
+    (place index more : ℕ) (d : Y.DeclaredVariable) → is_declared d ≡ true → IsTabled e p.places.signatures d →
+    Begins p.places.constants code w.links.data' d → HasStack w p φ φs place (variable_bytes d + more) →
     nat_le (automatic_in_use p.state.living + variable_bytes d) most_automatic ≡ false →
-    PassesLimit p (word_made e place index d) φ φs
-passes w p φ φs e place index more d is table h past =
+    PassesLimit w code p (word_made e place index d) φ φs
+passes w code p φ φs e place index more d is table begins h past =
     let here = h.here in
     let inside = h.inside in
     let m = makeable d is in
@@ -216,8 +216,7 @@ passes w p φ φs e place index more d is table h past =
       inside = omega (arith, here, inside, some);
       shape = table.shape;
       number = table.small;
-      initial = m.initial;
-      none = m.none;
+      initial = begins;
       limit = ap (λ n. nat_le (automatic_in_use p.state.living + n) most_automatic) m.counts ∙ past;
     }
 
@@ -244,7 +243,7 @@ first_means around index acts d ds s is =
 first_over :
     (w : Surroundings) (code : List Instr) (e : Environment) (around : Around) (p : Point) (numbers : ℕ → ℕ)
     (φ : Layer) (φs : List Layer) (place index : ℕ) (d : Y.DeclaredVariable) (ds : List Y.DeclaredVariable) →
-    HasWord w e → is_declared d ≡ true → PassesLimit p (word_made e place index d) φ φs →
+    HasWord w e → is_declared d ≡ true → PassesLimit w code p (word_made e place index d) φ φs →
     AreOver w code e around p numbers place index (d ∷ ds)
 unfolding K.variable_made looked choose stored give ◌>>=◌ ◌>>◌
 first_over w code e around p numbers φ φs place index d ds has is past =
@@ -267,19 +266,11 @@ first_over w code e around p numbers φ φs place index d ds has is past =
           (omega (arith, paid, n), has.acts) (front_of first rest l) there;
     }
 
--- nothing is told of the name of what is no area
-values_now :
-    (w : Surroundings) (p : Point) (x : Declared) (φ : Layer) (φs : List Layer) → IsDeclared w p x φ φs →
-    with_made (made_of w.parts φ x) p ≡ behind_made w.parts φ x p
-values_now w p x φ φs is =
-    sym (ap (λ o. with_made (record (made_of w.parts φ x) { told = told_by o x.place (p.state.serials + 1) φ.told }) p)
-    is.fixed)
-
 -- it is made, and one behind it passes the limit
 later_over :
     (w : Surroundings) (code : List Instr) (e : Environment) (around : Around) (p : Point) (numbers : ℕ → ℕ)
     (φ : Layer) (φs : List Layer) (place index : ℕ) (d : Y.DeclaredVariable) (ds : List Y.DeclaredVariable) →
-    HasWord w e → is_declared d ≡ true → IsDeclared w p (word_made e place index d) φ φs →
+    HasWord w e → is_declared d ≡ true → MayBeMade w code p (word_made e place index d) φ φs →
     AreOver w code e around (behind_made w.parts φ (word_made e place index d) p) numbers
     (place + variable_bytes d) (index + 1) ds →
     AreOver w code e around p numbers place index (d ∷ ds)
@@ -289,35 +280,31 @@ later_over w code e around p numbers φ φs place index d ds has plain is next =
     let first = constant_made e place d in
     let rest = made_code e (words_from e (place + variable_bytes d) (index + 1) ds) in
     let n = size_append first rest in
-    let now' = values_now w p x φ φs is in
     record {
       state = next.state;
       means =
           first_means around index w.acts d ds p.state plain
           ∙ ap (λ flow. flow_on w.acts flow (λ u. K.variables_made around (index + 1) ds))
-          (variable_means w p x φ φs w.acts is)
-          ∙ ap (λ (r : Point). K.variables_made around (index + 1) ds w.acts r.state) now'
+          (started_means w code p x φ φs w.acts is)
           ∙ next.means;
       over = λ c i f known paid l there.
-          let r = subst (λ r'. Reach code c f (services_of p) (c + size_of first) (services_of r')
-          (λ b y. IsIn w r' numbers (i + size_of first) b y)) now'
-          (variable_comes w code e p numbers x φ φs c i f known is (refl, has.parts) (front_of first rest l) there) in
+          let r = next_comes w code e p numbers x φ φs c i f known (inl is) (refl, has.parts)
+          (front_of first rest l) there in
           over_then r
           (next.over (c + size_of first) (i + size_of first) (reached r)
-          (subst (λ r'. Stands w r' × IsImage w code r') now'
-          (made_becomes (record { stands = known.0; image = known.1; is = is })).stands) (omega (arith, paid, n))
+          (next_stands w code p x φ φs known (inl is)) (omega (arith, paid, n))
           (back_of first rest l) (reached_holds r));
     }
 
 pub words_over :
     (w : Surroundings) (code : List Instr) (e : Environment) (around : Around) (p : Point) (numbers : ℕ → ℕ)
     (φ : Layer) (φs : List Layer) (place index : ℕ) (ds : List Y.DeclaredVariable) → HasWord w e →
-    are_plain ds ≡ true → AreTabled e p.places.signatures ds → IsOwner p →
-    HasStack w p φ φs place (bytes_of ds) → most_automatic < automatic_in_use p.state.living + bytes_of ds →
+    are_plain ds ≡ true → AreTabled e p.places.signatures ds → EachBegins p.places.constants code w.links.data' ds →
+    IsOwner p → HasStack w p φ φs place (bytes_of ds) → most_automatic < automatic_in_use p.state.living + bytes_of ds →
     AreOver w code e around p numbers place index ds
-words_over w code e around p numbers φ φs place index [] has plain tabled owner h past =
+words_over w code e around p numbers φ φs place index [] has plain tabled begin owner h past =
     let used = h.used in absurd (omega (arith, used, past))
-words_over w code e around p numbers φ φs place index (d ∷ ds) has plain tabled owner h past =
+words_over w code e around p numbers φ φs place index (d ∷ ds) has plain tabled begin owner h past =
     let a = and_parts (is_declared d) (are_plain ds) plain in
     let x = word_made e place index d in
     let one = one_counts w.parts p φ e place index d a.0 owner in
@@ -325,11 +312,12 @@ words_over w code e around p numbers φ φs place index (d ∷ ds) has plain tab
     (λ e'.
     let less = leb-true (automatic_in_use p.state.living + variable_bytes d) most_automatic e' in
     later_over w code e around p numbers φ φs place index d ds has a.0
-    (one_declared w p φ φs e place index 0 d a.0 tabled.0 (stack_room (variable_bytes d) (bytes_of ds) h less))
+    (one_declared w code p φ φs e place index 0 d a.0 tabled.0 begin.0
+    (stack_room (variable_bytes d) (bytes_of ds) h less))
     (words_over w code e around (behind_made w.parts φ x p) numbers
     (layer_behind w.parts (p.state.serials + 1) φ x) φs (place + variable_bytes d) (index + 1) ds
-    has a.1 tabled.1 (next_owner w.parts p φ x owner)
+    has a.1 tabled.1 begin.1 (next_owner w.parts p φ x owner)
     (next_stack w p φ φs e place index (bytes_of ds) d a.0 owner h less) (omega (arith, past, one))))
     (λ e'.
     first_over w code e around p numbers φ φs place index d ds has a.0
-    (passes w p φ φs e place index (bytes_of ds) d a.0 tabled.0 h e'))
+    (passes w code p φ φs e place index (bytes_of ds) d a.0 tabled.0 begin.0 h e'))

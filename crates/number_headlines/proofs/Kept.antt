@@ -31,11 +31,13 @@ use Rattle.program_runs.specs.Calls.{left_over}
 use Rattle.program_runs.specs.Starts.{image_parts, no_numbers}
 use Rattle.program_runs.specs.Statements.{EachDoes, IsBegun}
 use Rattle.program_runs.specs.Variables.{Declared, generation_for}
-use Rattle.expression_runs.specs.Variables.{IsNumber, Spot, variable_of}
+use Rattle.expression_runs.specs.Variables.{IsNumber, Spot, number_declared, variable_of}
 use Rattle.element_runs.specs.Arrays.{IsArray}
 use Rattle.scalar_runs.specs.Scalars.{IsScalar}
 use Rattle.variable_runs.specs.Lists.{all_made, behind_made, layer_after, layer_behind}
-use Rattle.variable_runs.proofs.Lists.{all_procedure}
+use Rattle.variable_runs.proofs.Lists.{all_begun, all_serials}
+use Rattle.list_calls.specs.Passed.{IsTelling}
+use Rattle.list_calls.proofs.Telling.{own_telling}
 use Rattle.pli_headline.specs.Headline.{FitsMemory, Headline, parts}
 use Rattle.block_headlines.proofs.Constants.{constants_stand}
 use Rattle.block_headlines.specs.Headlines.{HeadlinesKept, Layout, Runs}
@@ -47,7 +49,7 @@ use Rattle.area_runs.specs.Allocations.{HasArea}
 use Rattle.number_runs.specs.Areas.{held_in}
 use Rattle.number_runs.specs.Based.{is_area_if, is_pointer_if}
 use Rattle.number_runs.specs.Numbers.{is_area_known, is_pointer_known}
-use Rattle.number_runs.proofs.AreaWords.{held_behind}
+use Rattle.number_runs.proofs.AreaWords.{held_behind, held_few}
 use Rattle.number_headlines.specs.Headlines.{IsNumberProgram}
 use Rattle.number_headlines.specs.Programs.{are_all_known, has_main, most_words, places_to, pointers_of, scope_of}
 use Rattle.number_headlines.proofs.Bodies.{each_body}
@@ -56,7 +58,10 @@ use Rattle.number_headlines.proofs.FullWords.{words_at, words_lower}
 use Rattle.number_headlines.proofs.Mains.{Main, block_for, level_of, made_system, main_all, main_begun, main_area}
 use Rattle.number_headlines.proofs.Mains.{main_array, main_for, main_narrow, held_for, main_is, main_pointer}
 use Rattle.number_headlines.proofs.Mains.{main_layer, main_number, main_room, main_spare, main_told, own_words, placed}
-use Rattle.number_headlines.proofs.Mains.{run_for}
+use Rattle.number_headlines.proofs.Mains.{main_areas, run_for}
+use Rattle.number_headlines.proofs.Telling.{serial_given}
+use Rattle.number_runs.proofs.AreaKnown.{held_place}
+use Rattle.number_runs.proofs.Words.{found}
 use Rattle.number_headlines.proofs.Mains.{spare, start_for, surroundings_for}
 use Rattle.number_headlines.proofs.Loops.{after_waits, after_words}
 use Rattle.number_headlines.proofs.Places.{around_is}
@@ -152,6 +157,26 @@ main_variable {program} m input acts b x h =
     let own = main_owns m x a.0 in
     main_number m input acts x (record { block = own.0; level = own.1; plain = a.1 }) b
 
+-- and its frame tells their names
+main_names :
+    {program : Y.Program} (m : Main program) (input : List ℕ) (acts : ℕ) → IsBegun (block_for m input acts) →
+    (x : Spot) → is_known (scope_of program m.called m.head m.body) x ≡ true →
+    (block_for m input acts).first.state.serials < 2 ^ 64 → IsTelling (block_for m input acts) x
+main_names {program} m input acts b x h small =
+    let e = environment_for program m.head in
+    let plain = is_plain_if (declared_variable program (variable_of x)) in
+    let a = and_parts (list_any (is_place x) (places_to e m.head.level)) plain h in
+    let own = main_owns m x a.0 in
+    let is = main_variable m input acts b x h in
+    let there = found (declared_variable program (variable_of x)) a.1 in
+    let w = surroundings_for program input acts in
+    let code = linked_code (code_for program) in
+    let at = held_place w code (main_for m input acts) (start_for program input acts) no_numbers x
+    (number_declared there.initial) (main_areas m input acts) own refl there.is in
+    let given = serial_given (block_for m input acts) x b is in
+    own_telling w code (main_for m input acts) (start_for program input acts) no_numbers (held_in e) _ x
+    (main_all m input acts) at.1 at.0 is (omega (arith, given, small))
+
 main_element :
     {program : Y.Program} (m : Main program) (input : List ℕ) (acts : ℕ) → IsBegun (block_for m input acts) →
     (x : Spot) → is_array_known (scope_of program m.called m.head m.body) x ≡ true →
@@ -225,6 +250,10 @@ main_running once {program} m input acts b =
     let words = own_words m in
     let waiting = m.waiting in
     let found = main_found program (placed m) m.main in
+    let serials = all_serials w start φ xs in
+    let many = held_few e spot 0 ds in
+    let count = held.few in
+    let small : (block_for m input acts).first.state.serials < 2 ^ 64 = omega (arith, serials, many, count) in
     record {
       running = record {
         own = own_block program m.head m.body None found;
@@ -244,6 +273,8 @@ main_running once {program} m input acts b =
         arrays = λ x h. main_element m input acts b x h;
         narrows = λ x h. main_scalar m input acts b x h;
         parameters = λ x h. absurd (none_received program m.called m.head m.body None x found h);
+        named = λ x h. main_names m input acts b x h small;
+        serials = small;
         unraised = λ c. made_system image_parts _ xs _ c tt;
         idle = made_idle φ xs start;
         told = main_told m input acts b;
@@ -301,7 +332,7 @@ program_runs once tables {program} m fits =
           (first_bytes (picture_of parts program)) m.loadable (has_start program m.known) m.main
           (first_length (picture_of parts program) m.loadable.fits fits.statics_fit)
           (constants_stand (code_for program) fits) few
-          (all_procedure (surroundings_for program input acts) (linked_code (code_for program))
+          (all_begun (surroundings_for program input acts) (linked_code (code_for program))
           (main_for m input acts)
           (start_for program input acts) no_numbers (held_in (environment_for program m.head))
           (main_all m input acts))

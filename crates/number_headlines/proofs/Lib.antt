@@ -1,8 +1,10 @@
 pub mod Tables
+pub mod Begins
 pub mod Puts
 pub mod Loops
 pub mod Mains
 pub mod Places
+pub mod Telling
 pub mod Running
 pub mod Pointers
 pub mod Based
@@ -34,3 +36,6 @@ pub mod GatheredRows
 pub mod TextRows
 pub mod AreaRows
 pub mod PowerRows
+pub mod InitialRows
+pub mod EuclidRows
+pub mod LentRows

@@ -7,10 +7,13 @@ use Rattle.std.proofs.lemmas.Bool.{le-leb, leb-true}
 use Rattle.pli_language.specs.declared.condition.Condition.TheVariants as C
 use Rattle.pli_typing.specs.TypedTree as Y
 use Rattle.pli_meaning.specs.Control.{Label}
+use Rattle.pli_meaning.specs.DeclaredShapes.{variables_of_block}
 use Rattle.pli_meaning.specs.StorageState.{automatic_in_use, most_activations, most_automatic}
 use Rattle.pli_coding.specs.Allocating.{act_code}
 use Rattle.pli_coding.specs.Assembly.{size_of}
+use Rattle.pli_coding.specs.Environments.{Environment}
 use Rattle.pli_coding.specs.Images.{linked_code}
+use Rattle.pli_coding.specs.Locating.{table_number}
 use Rattle.pli_coding.specs.Statements.{stmt_code}
 use Rattle.code_marks.specs.CodeMarks.{MarkedOnce}
 use Rattle.activation_relation.specs.FrameLaws.{with_waits}
@@ -23,17 +26,20 @@ use Rattle.program_runs.specs.Calls.{left_over}
 use Rattle.program_runs.specs.Statements.{Block, DoesWith, set_aside, IsAmong}
 use Rattle.expression_runs.specs.Assignments.{setting_around}
 use Rattle.expression_runs.specs.Laws as L
+use Rattle.expression_runs.specs.Variables.{Spot, number_declared}
 use Rattle.nested_calls.specs.Nested.{parent_at}
 use Rattle.list_calls.specs.Arguments.{EachGives, Way, ComeTo}
 use Rattle.list_calls.specs.ListCalls.{IsListedCall, copies_take}
 use Rattle.list_calls.specs.ListFunctions.{IsListedValue}
 use Rattle.list_calls.specs.ListKnown.{AreStored}
+use Rattle.list_calls.proofs.Telling.{telling_named}
 use Rattle.list_calls.proofs.ListCalls.{listed_call_does}
 use Rattle.list_calls.proofs.ListCode.{call_coded, given_list, giving_in, last_of}
 use Rattle.list_calls.proofs.ListFunctions.{deep_function_ends, full_function_ends, listed_function_does}
 use Rattle.list_calls.proofs.ListFunctions.{beside_function_ends}
 use Rattle.list_calls.proofs.ListLimits.{deep_call_ends, full_call_ends, beside_call_ends}
-use Rattle.number_runs.specs.Knowledge.{given_number, given_statement}
+use Rattle.number_runs.specs.Knowledge.{IsPassable, given_number, given_statement}
+use Rattle.number_runs.specs.Numbers.{is_known}
 use Rattle.number_runs.proofs.Received.{stored_told}
 use Rattle.number_headlines.proofs.Deciding.{by_decision, entry_low}
 use Rattle.number_headlines.proofs.Inner.{Inner, inner_is}
@@ -41,6 +47,9 @@ use Rattle.number_headlines.proofs.ListPlaces.{function_taking, procedure_taking
 use Rattle.number_headlines.proofs.Mains.{Main, most_for}
 use Rattle.number_headlines.proofs.Running.{EachBody, EachGiven, IsEntered, IsRunning, Running, around_for}
 use Rattle.number_headlines.proofs.Running.{block_of_run, told_run, told_running}
+use Rattle.number_headlines.proofs.Based.{tabled_at}
+use Rattle.number_headlines.proofs.Telling.{serial_given}
+use Rattle.number_headlines.specs.Programs.{scope_of}
 use Rattle.std.proofs.lemmas.Bool.Decides.{nat_tests}
 use Rattle.list_calls.specs.Lists.{Passing}
 use Rattle.number_runs.specs.Variables.{bytes_of}
@@ -259,6 +268,43 @@ given_call_by once {program} m input acts valued more b a few h each labels leve
     }) give))
     (λ deep. deep_call_ends k u labels line index left_over need (most_for program) more is deep give))
 
+-- each variable of a block may be passed by reference: the table has its signature, and it lives
+passable_of :
+    {program : Y.Program} (m : Main program) (input : List ℕ) (acts : ℕ) (valued : Bool) (more blocks : ℕ)
+    (a : Running) → IsRunning m input acts valued more a blocks → (x : Spot) →
+    is_known (scope_of program m.called a.head a.body) x ≡ true →
+    IsPassable (block_of_run program input acts valued more a) x
+passable_of {program} m input acts valued more blocks a h x known =
+    let k = block_of_run program input acts valued more a in
+    let e = environment_for program a.head in
+    let t = h.named x known in
+    let n = t.number in
+    let d = number_declared n.initial in
+    let e' : Environment = environment_for program (record a.head { number = x.block }) in
+    let tabled = tabled_at e' k.first.places.signatures (variables_of_block program x.block) x.index d
+    (h.tabled (record a.head { number = x.block })) n.declared in
+    let given = serial_given k x h.begun n in
+    let small = h.serials in
+    let at = n.at in
+    let low = n.low in
+    let inside = n.inside in
+    record {
+      serial = n.serial;
+      signature = table_number e d;
+      named = telling_named k x t tabled.shape tabled.small (omega (arith, given, small));
+      stored = record {
+        old = given;
+        living = n.living;
+        lives = n.lives;
+        shape = n.shape;
+        numbered = tabled.shape;
+        small = omega (arith, given, small);
+        number = tabled.small;
+        low = omega (arith, at, low);
+        inside = omega (arith, at, inside);
+      };
+    }
+
 -- whatever waits in the words of its frame
 pub knows_given :
     MarkedOnce → {program : Y.Program} (m : Main program) (input : List ℕ) (acts : ℕ) (valued : Bool)
@@ -282,6 +328,7 @@ knows_given once {program} m input acts valued more (suc b) a few e each gives =
       call = 0;
     } in
     record {
+      passable = λ x is. passable_of m input acts valued (suc more) (suc b) a h x is;
       functions = λ words waits labels line level n need ways some stored includes free room is give.
           let f = inner_is m a.head (length ways) true level n is in
           let many = f.many in

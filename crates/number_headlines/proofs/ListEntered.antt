@@ -1,6 +1,6 @@
 -- A block of the class that is called with a list of arguments: its variables are made, and what is known there.
-use Rattle.std.proofs.Common.{◌≡◌, ◌⊎◌, inl, inr, ℕ, suc, ◌+◌, ◌≤◌, List, [], ◌∷◌, length, Option, Some, Bool, true}
-use Rattle.std.proofs.Common.{false, refl, sym, ap, ◌∙◌, subst, arith}
+use Rattle.std.proofs.Common.{◌≡◌, ◌⊎◌, inl, inr, ℕ, suc, ◌+◌, ◌^◌, ◌<◌, ◌≤◌, List, [], ◌∷◌, length, Option, Some}
+use Rattle.std.proofs.Common.{Bool, true, false, refl, sym, ap, ◌∙◌, subst, arith}
 use Rattle.std.specs.Prelude.{◌&&◌, ◌||◌, ◌==◌, nat_lt, slice_get, if◌then◌else◌}
 use Rattle.std.specs.List.{list_any}
 use Rattle.std.proofs.lemmas.Bool.{and_from, and_parts, eqb-true, ltb-true}
@@ -25,6 +25,7 @@ use Rattle.program_runs.specs.Procedures.{IsCoded}
 use Rattle.program_runs.specs.Statements.{Block, IsAmong, IsBegun}
 use Rattle.program_runs.proofs.Constants.{constants_among, constants_begun}
 use Rattle.program_runs.specs.Starts.{image_parts}
+use Rattle.program_runs.specs.Variables.{Declared}
 use Rattle.expression_runs.specs.Variables.{IsNumber, Spot, variable_of, number_declared}
 use Rattle.element_runs.specs.Arrays.{IsArray}
 use Rattle.scalar_runs.specs.Scalars.{IsScalar}
@@ -55,9 +56,12 @@ use Rattle.number_headlines.proofs.Running.{IsEntered, IsRunning, Running, block
 use Rattle.number_headlines.proofs.Running.{table_later}
 use Rattle.variable_runs.specs.Known.{IsKnown}
 use Rattle.variable_runs.proofs.Known.{known_number}
-use Rattle.variable_runs.specs.Lists.{all_made, first_all, layer_after, newest_all}
+use Rattle.variable_runs.specs.Lists.{Among, all_made, first_all, layer_after, newest_all}
 use Rattle.list_calls.proofs.WordsBeside.{words_beside}
 use Rattle.list_calls.proofs.WordsKnown.{beside_known}
+use Rattle.list_calls.specs.Passed.{IsTelling}
+use Rattle.list_calls.specs.WordsBeside.{IsOwnBeside}
+use Rattle.list_calls.proofs.Telling.{beside_telling, inner_list_telling}
 use Rattle.number_runs.proofs.Words.{array_known, bytes_before, found, found_array, found_narrow, narrow_known}
 use Rattle.number_runs.proofs.Words.{places_are, word_made, words_among}
 use Rattle.number_headlines.proofs.ListMade.{AllFit, Arrived, all_beside, all_passed, call_at, layer_at, made_account}
@@ -66,6 +70,7 @@ use Rattle.number_headlines.proofs.ListSites.{CopiesFit, IsSite, Site', bound_at
 use Rattle.number_headlines.proofs.ListSites.{listed_in, own_of, parameters_for, received_by, words_for}
 use Rattle.number_headlines.proofs.ListWords.{behind_here, found_behind, place_behind, word_inside}
 use Rattle.number_headlines.proofs.Loops.{after_waits, after_words}
+use Rattle.number_headlines.proofs.Telling.{serial_given, serials_small}
 
 -- ---- its variables
 
@@ -189,13 +194,28 @@ begins {program} m {ns = ns} {v = v} o =
 -- ---- its own variables
 
 -- each stands in its frame
-own_known :
+abbrev own_word_of :
+    {program : Y.Program} → {m : Main program} → {input : List ℕ} → {acts : ℕ} → {valued : Bool} → {more b : ℕ} →
+    {a : Running} → {ns : List ℕ} → {v : Bool} → {level number : ℕ} → Given m input acts valued more b a ns v level
+    number → (x : Spot) → (d : Y.DeclaredVariable) → (place : ℕ) → Declared
+own_word_of {program} {ns = ns} o x d place =
+    let ds = variables_of_block program o.inner.head.number in
+    word_made (environment_for program o.inner.head)
+    (fixed_size o.inner.head.level (length ns) + bytes_before (beside_received ds) place) (received_in ds + place) d
+
+record HasPlace {program : Y.Program} {m : Main program} {input : List ℕ} {acts : ℕ} {valued : Bool} {more b : ℕ}
+    {a : Running} {ns : List ℕ} {v : Bool} {level number : ℕ} (o : Given m input acts valued more b a ns v level number)
+    (x : Spot) (d : Y.DeclaredVariable) : Type 0 where
+  place : ℕ
+  own : IsOwnBeside (call_of o).callee (own_word_of o x d place) x
+  among : Among (own_word_of o x d place) (words_for o.inner)
+
+own_place :
     {program : Y.Program} (m : Main program) {input : List ℕ} {acts : ℕ} {valued : Bool} {more b : ℕ} {a : Running}
     {ns : List ℕ} {v : Bool} {level number : ℕ} (o : Given m input acts valued more b a ns v level number) (x : Spot)
     (d : Y.DeclaredVariable) → (x.block ≡ o.inner.head.number) × (x.level ≡ o.inner.head.level) →
-    declared_variable program (variable_of x) ≡ Some d → is_declared d ≡ true →
-    IsKnown (block_of_run program input acts v more (run_given o)) x d
-own_known {program} m {ns = ns} {v = v} o x d here is one =
+    declared_variable program (variable_of x) ≡ Some d → is_declared d ≡ true → HasPlace o x d
+own_place {program} m {ns = ns} {v = v} o x d here is one =
     let i = o.inner in
     let arrived = arrived_of o in
     let e = environment_for program i.head in
@@ -211,23 +231,36 @@ own_known {program} m {ns = ns} {v = v} o x d here is one =
     let at = places_are e.parts place es own.beside counted in
     let start : fixed_size e.level (length (parameters_of_block e.program e.block)) ≡ place =
     ap (λ (us : List ℕ). fixed_size e.level (length us)) (ap parameters_in i.is) in
-    beside_known (function_by v) (call_at arrived) first (words_for i)
-    (word_made e (place + bytes_before es f.place) (first + f.place) d) x
-    (record { high = omega arith; inside = omega arith }) (all_beside m arrived o.all)
-    (words_among e place first f.place es d f.there)
-    (record {
-      declared = is;
-      index = f.at;
-      level = here.1;
-      own = refl;
-      place =
-          ap (λ n. automatic_place e.parts e.program n x.level x.index) here.0
-          ∙ ap (λ n. automatic_place e.parts e.program e.block n x.index) here.1
-          ∙ ap (λ n. automatic_place e.parts e.program e.block e.level n) f.at
-          ∙ ap (λ n. variable_place e.parts n ds (first + f.place)) start
-          ∙ place_behind e.parts place first ds es f.place behind (omega (arith, counted))
-          ∙ at f.place (word_inside es f.place d f.there);
-    }) o.begun
+    record {
+      place = f.place;
+      own = record {
+        declared = is;
+        index = f.at;
+        level = here.1;
+        own = refl;
+        place =
+            ap (λ n. automatic_place e.parts e.program n x.level x.index) here.0
+            ∙ ap (λ n. automatic_place e.parts e.program e.block n x.index) here.1
+            ∙ ap (λ n. automatic_place e.parts e.program e.block e.level n) f.at
+            ∙ ap (λ n. variable_place e.parts n ds (first + f.place)) start
+            ∙ place_behind e.parts place first ds es f.place behind (omega (arith, counted))
+            ∙ at f.place (word_inside es f.place d f.there);
+      };
+      among = words_among e place first f.place es d f.there;
+    }
+
+own_known :
+    {program : Y.Program} (m : Main program) {input : List ℕ} {acts : ℕ} {valued : Bool} {more b : ℕ} {a : Running}
+    {ns : List ℕ} {v : Bool} {level number : ℕ} (o : Given m input acts valued more b a ns v level number) (x : Spot)
+    (d : Y.DeclaredVariable) → (x.block ≡ o.inner.head.number) × (x.level ≡ o.inner.head.level) →
+    declared_variable program (variable_of x) ≡ Some d → is_declared d ≡ true →
+    IsKnown (block_of_run program input acts v more (run_given o)) x d
+own_known {program} m {v = v} o x d here is one =
+    let arrived = arrived_of o in
+    let p = own_place m o x d here is one in
+    beside_known (function_by v) (call_at arrived) (received_in (variables_of_block program o.inner.head.number))
+    (words_for o.inner) (own_word_of o x d p.place) x (record { high = omega arith; inside = omega arith })
+    (all_beside m arrived o.all) p.among p.own o.begun
 
 either : (q r : Bool) → r ≡ true → (q || r) ≡ true
 either true r h = refl
@@ -271,8 +304,54 @@ given_numbers {program} m {input} {acts} {valued} {more} {b} {a} {ns} {v} {level
         (o.caller.variables x (and_from around' plain low.1 parts.1))
     by (inr own) =
         let there = found (declared_variable program (variable_of x)) parts.1 in
-        known_number (block_of_run program input acts v more (run_given o)) x []
-        (own_known m o x (number_declared []) own there.is refl)
+        let d = number_declared there.initial in
+        known_number (block_of_run program input acts v more (run_given o)) x there.initial
+        (own_known m o x d own there.is
+        (ap (λ q. q || (is_array d || (is_narrow d || is_pointer d))) there.plain))
+
+-- its name is told, of a frame around or of its own
+given_named :
+    {program : Y.Program} (m : Main program) {input : List ℕ} {acts : ℕ} {valued : Bool} {more b : ℕ} {a : Running}
+    {ns : List ℕ} {v : Bool} {level number : ℕ} (o : Given m input acts valued more b a ns v level number) (x : Spot) →
+    is_known (scope_of program m.called o.inner.head o.inner.body) x ≡ true →
+    (block_of_run program input acts v more (run_given o)).first.state.serials < 2 ^ 64 →
+    IsTelling (block_of_run program input acts v more (run_given o)) x
+given_named {program} m {input} {acts} {valued} {more} {b} {a} {ns} {v} {level} {number} o x h small =
+    by (stands_at i x parts.0).at
+  where
+    i : Inner m a.head ns v level number
+    i = o.inner
+
+    plain : Bool
+    plain = is_plain_if (declared_variable program (variable_of x))
+
+    around' : Bool
+    around' = list_any (is_place x) (places_to (environment_for program a.head) a.head.level)
+
+    parts :
+        (list_any (is_place x) (places_to (environment_for program i.head) i.head.level) ≡ true) × (plain ≡ true)
+    parts = and_parts (list_any (is_place x) (places_to (environment_for program i.head) i.head.level)) plain h
+
+    few : (is : IsNumber (block_of_run program input acts v more (run_given o)) x) → is.serial < 2 ^ 64
+    few is =
+        let given = serial_given (block_of_run program input acts v more (run_given o)) x o.begun is in
+        omega (arith, given, small)
+
+    by :
+        ((x.level ≤ level) × (around' ≡ true)) ⊎ ((x.block ≡ i.head.number) × (x.level ≡ i.head.level)) →
+        IsTelling (block_of_run program input acts v more (run_given o)) x
+    by (inl low) =
+        inner_list_telling (function_by v) (calls_from o) (call_of o) more o.point o.numbers o.passed x (begins m o)
+        low.0 (o.caller.named x (and_from around' plain low.1 parts.1))
+    by (inr own) =
+        let arrived = arrived_of o in
+        let there = found (declared_variable program (variable_of x)) parts.1 in
+        let d = number_declared there.initial in
+        let p = own_place m o x d own there.is
+        (ap (λ q. q || (is_array d || (is_narrow d || is_pointer d))) there.plain) in
+        let is = given_numbers m o x h in
+        beside_telling (function_by v) (call_at arrived) (received_in (variables_of_block program i.head.number))
+        (words_for i) (own_word_of o x d p.place) x (all_beside m arrived o.all) p.among p.own is (few is)
 
 given_arrays :
     {program : Y.Program} (m : Main program) {input : List ℕ} {acts : ℕ} {valued : Bool} {more b : ℕ} {a : Running}
@@ -479,6 +558,7 @@ given_entered once {program} m {input} {acts} {valued} {more} {b} {a} {ns} {v} o
     let deep = h.depth.all in
     let acts' = ap (λ (u : World). u.acts) made.world in
     let last = layer_after image_parts serial φ (words_for i) in
+    let small = serials_small w p _ o.among.few (omega arith) made.few in
     record {
       running = record {
         own = own_block program i.head i.body (result_of v) i.is;
@@ -498,6 +578,8 @@ given_entered once {program} m {input} {acts} {valued} {more} {b} {a} {ns} {v} o
         arrays = λ x is. given_arrays m o x is;
         narrows = λ x is. given_narrows m o x is;
         parameters = λ x is. given_parameters m o x is;
+        named = λ x is. given_named m o x is small;
+        serials = small;
         unraised = λ c. system_there arrived c;
         idle = made.idle;
         told = record {

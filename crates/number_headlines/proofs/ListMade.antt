@@ -12,7 +12,8 @@ use Rattle.activation_relation.specs.FrameLaws.{with_waits}
 use Rattle.activation_relation.specs.Frames.{lower_end, upper_top}
 use Rattle.activation_relation.specs.Layers.{Layer, Point}
 use Rattle.activation_relation.proofs.Returning.{in_use_later}
-use Rattle.program_places.specs.Programs.{environment_for, code_for}
+use Rattle.program_places.specs.Constants.{constants_in}
+use Rattle.program_places.specs.Programs.{environment_for, code_for, links_for}
 use Rattle.program_places.proofs.Found.{known}
 use Rattle.program_runs.specs.Statements.{Block, IsAmong}
 use Rattle.program_runs.specs.Starts.{image_parts}
@@ -26,7 +27,7 @@ use Rattle.list_calls.specs.Taking.{bound_waits, variables_index}
 use Rattle.list_calls.proofs.ListBlocks.{activation_in, layer_is}
 use Rattle.list_calls.proofs.ListCalls.{come_copies}
 use Rattle.list_calls.proofs.ListGiving.{come_many}
-use Rattle.number_runs.specs.Variables.{AreTabled, bytes_of, HaveRoom}
+use Rattle.number_runs.specs.Variables.{AreTabled, EachBegins, bytes_of, HaveRoom}
 use Rattle.number_headlines.specs.Programs.{beside_received, most_bytes, received_in}
 use Rattle.number_headlines.proofs.Entered.{inner_set}
 use Rattle.number_headlines.proofs.Inner.{Inner}
@@ -53,7 +54,9 @@ use Rattle.number_headlines.proofs.ListBounds.{bound_used, layer_lower}
 use Rattle.number_headlines.proofs.ListPlaces.{parameters_many}
 use Rattle.number_headlines.proofs.ListSites.{CopiesFit, IsSite, Site', bound_at, copies_few, own_of, parameters_for}
 use Rattle.number_headlines.proofs.ListSites.{passed_at, words_for}
-use Rattle.number_headlines.proofs.ListWords.{behind_here, bytes_behind, code_behind, many_behind, means_behind}
+use Rattle.number_headlines.proofs.Begins.{begins_at, block_begins}
+use Rattle.number_headlines.proofs.ListWords.{begins_behind, behind_here, bytes_behind, code_behind}
+use Rattle.number_headlines.proofs.ListWords.{many_behind, means_behind}
 use Rattle.number_headlines.proofs.ListWords.{parameter_before, parameter_there, place_behind, tabled_behind}
 use Rattle.number_headlines.proofs.ListWords.{those_behind, words_many}
 
@@ -116,8 +119,9 @@ bound_places :
     (words : ℕ) (xs : List Parameter) (ys : List Passing) (ψ φ : Layer) (φs : List Layer) (p : Point) →
     ((bound_all words xs ys ψ φ φs p).places.signatures ≡ p.places.signatures)
     × ((bound_all words xs ys ψ φ φs p).places.low ≡ p.places.low)
-bound_places words [] ys ψ φ φs p = (refl, refl)
-bound_places words (x ∷ xs) [] ψ φ φs p = (refl, refl)
+    × ((bound_all words xs ys ψ φ φs p).places.constants ≡ p.places.constants)
+bound_places words [] ys ψ φ φs p = (refl, refl, refl)
+bound_places words (x ∷ xs) [] ψ φ φs p = (refl, refl, refl)
 bound_places words (x ∷ xs) (PassesCopy z ∷ ys) ψ φ φs p =
     let last = words + 6 * length ys in
     bound_places words xs ys (grown (copy_made_of ψ (copy_with x z)) ψ)
@@ -284,6 +288,24 @@ words_tabled {program} {v = v} o =
     (tabled_behind e o.point.places.signatures (received_in ds) ds (beside_received ds) (behind_here ds)
     (table_later program o.among.later.remains o.caller.tabled i.head))
 
+-- what they begin with is told
+words_begin :
+    {program : Y.Program} (m : Main program) {input : List ℕ} {acts : ℕ} {valued : Bool} {more b : ℕ} {a : Running}
+    {ns : List ℕ} {v : Bool} {level number : ℕ} (o : Arrived m input acts valued more b a ns v level number) →
+    EachBegins (point_at o).places.constants (linked_code (code_for program)) (links_for program).data'
+    (beside_in program o.inner.head)
+words_begin {program} m {ns = ns} {v = v} o =
+    let i = o.inner in
+    let y = call_at o in
+    let ds = variables_of_block program i.head.number in
+    let places = bound_places y.words (parameters_for i) o.passed (listed_layer y) (with_waits (given_waits y) y.layer)
+    y.others (entered_point (giving_of (function_by v) y)) in
+    begins_at program (beside_received ds) (point_at o).places.constants
+    (places.2 ∙ o.among.later.remains.constants ∙ o.caller.told.constants)
+    (begins_behind (constants_in (code_for program)) (linked_code (code_for program)) (links_for program).data'
+    (received_in ds) ds (beside_received ds) (behind_here ds)
+    (block_begins program i.head i.body ns (result_of v) m.memory m.known i.is))
+
 words_coded :
     {program : Y.Program} (m : Main program) {caller : Y.BlockHead} {ns : List ℕ} {v : Bool} {level number : ℕ}
     (i : Inner m caller ns v level number) → 0 < length ns →
@@ -349,8 +371,8 @@ all_beside {program} m {input} {acts} {ns = ns} {v = v} o all =
       many = all_passed o;
       few = omega (arith, copies, paid, ways, inside, length', each, enough);
       declared =
-          words_declared w (point_at o) (layer_at o) (others_at o) e place first es own.beside (words_tabled o)
-          (words_room m o all);
+          words_declared w (linked_code (code_for program)) (point_at o) (layer_at o) (others_at o) e place first es
+          own.beside (words_tabled o) (words_begin m o) (words_room m o all);
     }
 
 -- behind them the account is as it was
@@ -442,7 +464,7 @@ full_beside {program} m {input} {acts} {valued} {more} {b} {a} {ns} {v} o few pa
     let size = ap (λ u. size_of u) coded in
     let j : 0 + first ≡ first = omega arith in
     let over = words_over w code e around q o.numbers (layer_at o) (others_at o) place first es
-    (record { parts = refl; acts = few }) own.beside (words_tabled o) (bound_owner o)
+    (record { parts = refl; acts = few }) own.beside (words_tabled o) (words_begin m o) (bound_owner o)
     (record {
       newest = account.newest;
       here = account.here;

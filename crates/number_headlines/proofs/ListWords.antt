@@ -1,9 +1,10 @@
 -- The variables that a block of the class has behind its parameters: what the program declares, their code, and what
 -- making them means.
-use Rattle.std.proofs.Common.{◌≡◌, ℕ, zero, suc, ◌+◌, ◌<◌, ◌≤◌, List, [], ◌∷◌, Some, Bool, true, false, length, inr}
-use Rattle.std.proofs.Common.{refl, sym, ap, ◌∙◌, subst, arith}
+use Rattle.std.proofs.Common.{◌≡◌, ℕ, zero, suc, ◌+◌, ◌<◌, ◌≤◌, List, [], ◌∷◌, Option, Some, Bool, true, false, inr}
+use Rattle.std.proofs.Common.{length, refl, sym, ap, ◌∙◌, subst, arith}
 use Rattle.std.specs.Prelude.{if◌then◌else◌, min, slice_get}
 use Rattle.std.proofs.lemmas.Bool.{and_parts}
+use Rattle.rv_meaning.specs.declared.instr.Instr.{Instr}
 use Rattle.pli_typing.specs.TypedTree as Y
 use Rattle.pli_meaning.specs.Control.{give, ◌>>=◌, ◌>>◌}
 use Rattle.pli_meaning.specs.Making as K
@@ -16,8 +17,10 @@ use Rattle.pli_coding.specs.Frames.{MemoryParts, frame_bytes, is_automatic, last
 use Rattle.program_runs.specs.Variables.{Declared}
 use Rattle.variable_runs.specs.Lists.{AreThose}
 use Rattle.list_calls.specs.Lists.{Parameter}
+use Rattle.pli_coding.specs.StaticData.{PlacedDatum}
 use Rattle.number_runs.specs.Numbers.{is_parameter, is_parameter_if}
-use Rattle.number_runs.specs.Variables.{AreTabled, are_plain, bytes_of, is_declared, variable_bytes, words_from}
+use Rattle.number_runs.specs.Variables.{AreTabled, EachBegins, are_plain, bytes_of, is_declared, variable_bytes}
+use Rattle.number_runs.specs.Variables.{words_from}
 use Rattle.number_runs.proofs.Variables.{parameter_declared_is}
 use Rattle.number_headlines.specs.Programs.{are_parameters, beside_received, received_in}
 use Rattle.number_headlines.proofs.ListPlaces.{parameters_at}
@@ -55,6 +58,13 @@ pub tabled_behind :
 tabled_behind e signatures zero ds es is h = subst (λ us. AreTabled e signatures us) is h
 tabled_behind e signatures (suc n) [] es is h = absurd is
 tabled_behind e signatures (suc n) (d ∷ ds) es is h = tabled_behind e signatures n ds es is.1 h.1
+
+pub begins_behind :
+    (constants : ℕ → Option ℕ) (code : List Instr) (all : List PlacedDatum) (n : ℕ) (ds es : List Y.DeclaredVariable) →
+    IsBehind n ds es → EachBegins constants code all ds → EachBegins constants code all es
+begins_behind constants code all zero ds es is h = subst (EachBegins constants code all) is h
+begins_behind constants code all (suc n) [] es is h = absurd is
+begins_behind constants code all (suc n) (d ∷ ds) es is h = begins_behind constants code all n ds es is.1 h.1
 
 -- ---- where they stand
 

@@ -1,8 +1,8 @@
 -- The main procedure of a program of the class where it begins: its variables are made, and there is room for more.
-use Rattle.std.proofs.Common.{◌^◌, ◌<◌, ◌≡◌, ℕ, ◌+◌, ◌*◌, ◌≤◌, List, [], ◌∷◌, ◌++◌, Option, None, Some, true, false}
+use Rattle.std.proofs.Common.{◌≡◌, ℕ, ◌+◌, ◌*◌, ◌≤◌, List, [], ◌∷◌, ◌++◌, Option, None, Some, true, false}
 use Rattle.std.proofs.Common.{length, refl, sym, ap, ◌∙◌, subst, arith}
-use Rattle.std.specs.Prelude.{◌&&◌, ◌||◌, Bool, nat_le, if◌then◌else◌}
-use Rattle.std.proofs.lemmas.Bool.{and_parts, eqb-true, leb-true}
+use Rattle.std.specs.Prelude.{◌&&◌, Bool, nat_le}
+use Rattle.std.proofs.lemmas.Bool.{and_parts, leb-true}
 use Rattle.pli_language.specs.declared.condition.Condition.{Condition}
 use Rattle.pli_typing.specs.TypedTree as Y
 use Rattle.pli_meaning.specs.DeclaredShapes.{head_of, variables_of_block}
@@ -29,7 +29,7 @@ use Rattle.program_runs.specs.Statements.{Block, IsBegun}
 use Rattle.program_runs.specs.Variables.{Declared}
 use Rattle.expression_runs.specs.Variables.{IsNumber, Spot}
 use Rattle.activation_relation.specs.Points.{Surroundings}
-use Rattle.variable_runs.specs.Lists.{AreAll, all_made, behind_made, layer_behind, newest_all}
+use Rattle.variable_runs.specs.Lists.{AreAllBegun, all_made, behind_made, layer_behind, newest_all}
 use Rattle.well_formed_trees.specs.WellFormed.{HasMain}
 use Rattle.pli_headline.specs.Headline.{FitsMemory, parts}
 use Rattle.block_headlines.specs.Constants.{IsOf}
@@ -50,6 +50,7 @@ use Rattle.number_runs.proofs.Variables.{fixed_is}
 use Rattle.number_headlines.specs.Programs.{are_all_known, are_inner, body_of, callable_ones, has_main}
 use Rattle.number_headlines.specs.Programs.{has_result, is_body, most_bytes, most_waiting, most_words, are_held}
 use Rattle.number_headlines.specs.Programs.{scope_of}
+use Rattle.number_headlines.proofs.Begins.{block_begins}
 use Rattle.number_headlines.proofs.Tables.{block_known, has_table, held_block, serials_enough}
 
 -- ---- no unit comes with variables
@@ -270,7 +271,7 @@ main_spare {program} m input acts =
 
 pub main_areas :
     {program : Y.Program} (m : Main program) (input : List ℕ) (acts : ℕ) →
-    HasAreas (surroundings_for program input acts)
+    HasAreas (surroundings_for program input acts) (linked_code (code_for program))
     (main_for m input acts)
     (start_for program input acts) no_numbers
 main_areas {program} m input acts =
@@ -281,7 +282,7 @@ main_areas {program} m input acts =
     let n = held_bytes image_parts (variables_of_block program m.head.number) in
     record {
       kind = kind;
-      code = refl;
+      coded = refl;
       block = refl;
       level = refl;
       program = refl;
@@ -292,6 +293,7 @@ main_areas {program} m input acts =
       any = held.any;
       few = serials_enough program m.head.number m.known;
       tabled = has_table program m.head m.known;
+      begin = block_begins program m.head m.body [] None m.memory m.known found;
       room = room_fewer (surroundings_for program input acts) (main_begun m input acts)
           (main_layer m input acts) [] (fixed_size m.head.level 0) n (n + spare) (omega arith)
           (main_spare m input acts);
@@ -300,11 +302,11 @@ main_areas {program} m input acts =
 
 pub main_all :
     {program : Y.Program} (m : Main program) (input : List ℕ) (acts : ℕ) →
-    AreAll (surroundings_for program input acts)
+    AreAllBegun (surroundings_for program input acts) (linked_code (code_for program))
     (main_for m input acts)
     (start_for program input acts) no_numbers (held_in (environment_for program m.head))
 main_all {program} m input acts =
-    all_held (surroundings_for program input acts)
+    all_held (surroundings_for program input acts) (linked_code (code_for program))
     (main_for m input acts)
     (start_for program input acts) no_numbers (main_areas m input acts)
 

@@ -1,6 +1,6 @@
 -- A block of a program of the class where it runs: what is known at its first statement.
-use Rattle.std.proofs.Common.{◌≡◌, ℕ, suc, ◌+◌, ◌*◌, ◌%◌, ◌<◌, ◌≤◌, List, [], ◌∷◌, ◌++◌, length, Option, None, Some}
-use Rattle.std.proofs.Common.{Bool, true, false, refl, sym, ◌∙◌, subst, arith}
+use Rattle.std.proofs.Common.{◌≡◌, ℕ, suc, ◌+◌, ◌*◌, ◌%◌, ◌^◌, ◌<◌, ◌≤◌, List, [], ◌∷◌, ◌++◌, length, Option, None}
+use Rattle.std.proofs.Common.{Some, Bool, true, false, refl, sym, ◌∙◌, subst, arith}
 use Rattle.pli_language.specs.declared.condition.Condition.{Condition}
 use Rattle.pli_typing.specs.Signatures.{Fixed}
 use Rattle.pli_typing.specs.TypedTree as Y
@@ -51,10 +51,12 @@ use Rattle.number_runs.specs.Numbers.{bounds_known, is_array_known, is_known, is
 use Rattle.number_runs.proofs.Narrow.{narrow_told}
 use Rattle.number_runs.specs.Statements.{are_statements, statements_need, statements_set}
 use Rattle.number_runs.specs.Variables.{AreTabled}
-use Rattle.number_runs.proofs.Received.{parameter_told}
+use Rattle.list_calls.proofs.ParametersPassed.{parameter_told}
 use Rattle.number_runs.proofs.Waiting.{array_waits, narrow_waits, parameter_waits}
 use Rattle.number_headlines.specs.Programs.{most_waiting, scope_of}
+use Rattle.list_calls.specs.Passed.{IsTelling}
 use Rattle.number_headlines.proofs.Mains.{Main, most_for, surroundings_for}
+use Rattle.number_headlines.proofs.Telling.{telling_told, telling_waits}
 
 -- ---- the block of a procedure or of a function
 
@@ -202,6 +204,11 @@ pub record IsRunning {program : Y.Program} (m : Main program) (input : List ℕ)
     pub parameters :
         (x : Spot) → is_received (scope_of program m.called a.head a.body) x ≡ true →
         IsParameter (block_of_run program input acts valued more a) x
+    -- the frames tell the names of all numbers, whose serial numbers have two words
+    pub named :
+        (x : Spot) → is_known (scope_of program m.called a.head a.body) x ≡ true →
+        IsTelling (block_of_run program input acts valued more a) x
+    pub serials : (block_of_run program input acts valued more a).first.state.serials < 2 ^ 64
     pub unraised :
         (c : Condition) → IsSystem (force (block_of_run program input acts valued more a).first.state.activations c)
     pub idle : (block_of_run program input acts valued more a).first.control.waiting ≡ None
@@ -318,6 +325,8 @@ told_running {program} {m} {input} {acts} {valued} {more} {a} {blocks} h waits =
           narrow_told k φ φs waits free.newest x (type_known (scope_of program m.called a.head a.body) x)
           (h.narrows x is);
       parameters = λ x is. parameter_told k φ φs waits free.newest x (h.parameters x is);
+      named = λ x is. telling_told k φ φs waits free.newest x (h.named x is);
+      serials = h.serials;
       unraised = h.unraised;
       idle = h.idle;
       told = record { code = h.told.code; links = h.told.links; constants = h.told.constants };
@@ -367,6 +376,8 @@ waited_running {program} {m} {input} {acts} {valued} {more} {a} {blocks} h entri
       arrays = λ x is. array_waits k entries x (bounds_known s x) (h.arrays x is);
       narrows = λ x is. narrow_waits k entries x (type_known s x) (h.narrows x is);
       parameters = λ x is. parameter_waits k entries x (h.parameters x is);
+      named = λ x is. telling_waits k entries x (h.named x is);
+      serials = h.serials;
       unraised = h.unraised;
       idle = h.idle;
       told = record { code = h.told.code; links = h.told.links; constants = h.told.constants };

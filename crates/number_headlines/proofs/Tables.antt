@@ -262,16 +262,17 @@ one_tabled :
     HasSignature (signature_of d) e.table → IsTabled e (map template_of e.table) d
 one_tabled e d is few =
     of_declared (λ d'. HasSignature (signature_of d') e.table → IsTabled e (map template_of e.table) d')
-    (λ has.
+    (λ initial fit has.
     let n = number_numbered e.table few has in
     let small = n.few in
     record { small = omega (arith, small); shape = numbered_shape e.table number_kind n })
-    (λ b bounds has.
+    (λ b bounds initial fit has.
     let n = array_numbered e.table b bounds few has in
     let small = n.few in
     record { small = omega (arith, small); shape = numbered_shape e.table (array_kind b) n })
-    (by_narrow (λ t. HasSignature (signature_of (scalar_declared t [])) e.table →
-    IsTabled e (map template_of e.table) (scalar_declared t []))
+    (λ u is' initial fit.
+    by_narrow (λ t. HasSignature (signature_of (scalar_declared t initial)) e.table →
+    IsTabled e (map template_of e.table) (scalar_declared t initial))
     (λ p narrow has.
     let t = Y.FixedLeaf p in
     let n = narrow_numbered e.table t (fixed_held p narrow) few has in
@@ -285,7 +286,7 @@ one_tabled e d is few =
     let t = text_leaf v length in
     let n = narrow_numbered e.table t (text_held v length some short) few has in
     let small = n.few in
-    record { small = omega (arith, small); shape = numbered_shape e.table (narrow_kind t) n }))
+    record { small = omega (arith, small); shape = numbered_shape e.table (narrow_kind t) n }) u is')
     (λ has. other_tabled e pointer_declared refl few has)
     d is
 
@@ -370,7 +371,8 @@ narrow_ruled t h =
 
 declared_ruled : (d : Y.DeclaredVariable) → is_declared d ≡ true → IsRuled d
 declared_ruled d h =
-    of_declared IsRuled (record { headed = search rules; leaved = search rules }, (tt, tt)) array_ruled narrow_ruled (
+    of_declared IsRuled (λ initial fit. (record { headed = search rules; leaved = search rules }, (tt, tt)))
+    (λ b is initial fit. array_ruled b is) (λ t is initial fit. narrow_ruled t is) (
       record {
         headed = refl;
         leaved = (record { sized = refl; few = omega arith; bounded = tt; placed = refl }, tt);
@@ -436,8 +438,10 @@ text_unstatic true n some few = (tt, refl)
 
 declared_unstatic : (d : Y.DeclaredVariable) → is_declared d ≡ true → IsUnstatic d
 declared_unstatic d h =
-    of_declared IsUnstatic (tt, refl) (λ b is. (tt, refl))
-    (by_narrow (λ t. IsUnstatic (scalar_declared t [])) (λ p is. (tt, refl)) (tt, refl) text_unstatic) (tt, refl) d h
+    of_declared IsUnstatic (λ initial fit. (tt, refl)) (λ b is initial fit. (tt, refl))
+    (λ t is initial fit.
+    by_narrow (λ u. IsUnstatic (scalar_declared u [])) (λ p is'. (tt, refl)) (tt, refl) text_unstatic t is) (tt, refl)
+    d h
 
 known_unstatic : (d : Y.DeclaredVariable) → (is_any d ≡ true) ⊎ (is_parameter d ≡ true) → IsUnstatic d
 known_unstatic d (inl h) =

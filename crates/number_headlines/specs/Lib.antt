@@ -14,3 +14,6 @@ pub mod GatheredRows
 pub mod TextRows
 pub mod AreaRows
 pub mod PowerRows
+pub mod InitialRows
+pub mod EuclidRows
+pub mod LentRows

@@ -186,6 +186,7 @@ scope_of program ns head body =
       own = true;
       is_outer = λ level label. false;
       signals = λ c. true;
+      codes = false;
     }
 
 -- with parameters or without

@@ -5,10 +5,13 @@ ghost use Rattle.number_headlines.specs.AreaRows.{GatherKept};
 ghost use Rattle.number_headlines.specs.ArrayRows.{SieveKept};
 ghost use Rattle.number_headlines.specs.CallRows.{CallingKept};
 ghost use Rattle.number_headlines.specs.CountRows.{CountingKept};
+ghost use Rattle.number_headlines.specs.EuclidRows.{EuclidKept};
 ghost use Rattle.number_headlines.specs.FlagRows.{FlagKept};
 ghost use Rattle.number_headlines.specs.GatheredRows.{GatheredKept};
 ghost use Rattle.number_headlines.specs.GivenRows.{FactKept};
 ghost use Rattle.number_headlines.specs.Headlines.{NumberHeadlinesKept};
+ghost use Rattle.number_headlines.specs.InitialRows.{InitialKept};
+ghost use Rattle.number_headlines.specs.LentRows.{LentKept};
 ghost use Rattle.number_headlines.specs.NestRows.{NestKept};
 ghost use Rattle.number_headlines.specs.PowerRows.{PowerKept};
 ghost use Rattle.number_headlines.specs.PutRows.{SquaresKept};
@@ -124,6 +127,28 @@ pub fn gather_kept()
 /// A worked row with variables beside parameters: a function that raises a number to a power in a loop that counts.
 pub fn power_kept()
     ensures { PowerKept }
+{
+    number_headlines_kept();
+}
+
+/// A worked row with INITIAL: a table of constants, a text, and a variable that begins anew in each block of a
+/// function.
+pub fn initial_kept()
+    ensures { InitialKept }
+{
+    number_headlines_kept();
+}
+
+/// A worked row with arguments by reference: a procedure calls itself with its parameter and a variable of its own.
+pub fn euclid_kept()
+    ensures { EuclidKept }
+{
+    number_headlines_kept();
+}
+
+/// A worked row with both: variables that INITIAL gave values are passed by reference.
+pub fn lent_kept()
+    ensures { LentKept }
 {
     number_headlines_kept();
 }

@@ -22,9 +22,9 @@ use Rattle.program_runs.specs.Statements.{IsBegun}
 use Rattle.expression_runs.specs.Variables.{IsNumber, Spot, number_declared, variable_of}
 use Rattle.element_runs.specs.Arrays.{IsArray}
 use Rattle.scalar_runs.specs.Scalars.{IsScalar}
-use Rattle.variable_runs.specs.Known.{IsKnown, place_of}
-use Rattle.variable_runs.specs.Lists.{AreAll, AreThose, all_made, layer_after}
-use Rattle.variable_runs.proofs.Known.{known_number, known_own}
+use Rattle.variable_runs.specs.Known.{IsKnown, IsOwn, place_of}
+use Rattle.variable_runs.specs.Lists.{Among, AreAllBegun, AreThose, all_made, layer_after}
+use Rattle.variable_runs.proofs.Known.{known_begun, known_number}
 use Rattle.variable_runs.proofs.Lists.{layers_after}
 use Rattle.area_runs.specs.Allocations.{HasArea, IsTold}
 use Rattle.area_runs.specs.Based.{pointer_declared}
@@ -43,9 +43,9 @@ use Rattle.number_runs.proofs.Narrow.{narrow_is}
 use Rattle.number_runs.proofs.Words.{array_known, found, found_array, found_narrow, narrow_known, slice_less, word_made}
 
 pub all_held :
-    (w : Surroundings) (c : Callee) (p : Point) (numbers : ℕ → ℕ) → HasAreas w c p numbers →
-    AreAll w c p numbers (held_in c.environment)
-all_held w c p numbers h =
+    (w : Surroundings) (code : List Instr) (c : Callee) (p : Point) (numbers : ℕ → ℕ) → HasAreas w code c p numbers →
+    AreAllBegun w code c p numbers (held_in c.environment)
+all_held w code c p numbers h =
     let e = c.environment in
     let ds = variables_of_block e.program e.block in
     let first = fixed_size e.level 0 in
@@ -64,7 +64,7 @@ all_held w c p numbers h =
           (held_those e first 0 ds);
       listed = held_listed e first 0 ds keeper h.any;
       code =
-          h.code
+          h.coded
           ∙ held_coded e c.procedure.head.line first 0 ds keeper h.any
           (λ i less.
           ap (λ n. variable_place e.parts n ds (0 + i)) start
@@ -74,20 +74,29 @@ all_held w c p numbers h =
       parts = h.parts;
       few = omega (arith, few, most);
       declared =
-          held_declared w (begun_at w c p numbers) (layer_for w p numbers c.procedure c.calling) p.control.layers e
-          first 0 ds h.parts h.keeper h.any h.tabled h.serials
+          held_declared w code (begun_at w c p numbers) (layer_for w p numbers c.procedure c.calling) p.control.layers e
+          first 0 ds h.parts h.keeper h.any h.tabled h.begin h.serials
           (subst (λ parts. HaveRoom w (begun_at w c p numbers) (layer_for w p numbers c.procedure c.calling)
           p.control.layers first (held_bytes parts ds)) h.parts h.room);
     }
 
--- each of them is known in the block
-pub held_known :
+-- each of them stands where code looks for it
+pub held_place :
     (w : Surroundings) (code : List Instr) (c : Callee) (p : Point) (numbers : ℕ → ℕ) (x : Spot)
-    (d : Y.DeclaredVariable) → HasParts w.parts → HasAreas w c p numbers →
+    (d : Y.DeclaredVariable) → HasAreas w code c p numbers →
     (x.block ≡ c.environment.block) × (x.level ≡ c.environment.level) → is_based d ≡ false →
-    declared_variable c.environment.program (variable_of x) ≡ Some d → IsBegun (block_at w code c p numbers) →
-    IsKnown (block_at w code c p numbers) x d
-held_known w code c p numbers x d parts h own none is b =
+    declared_variable c.environment.program (variable_of x) ≡ Some d →
+    IsOwn c
+    (word_made c.environment
+    (fixed_size c.environment.level 0
+    + held_before c.environment.parts (variables_of_block c.environment.program c.environment.block) x.index)
+    (0 + x.index) d) x
+    × Among
+    (word_made c.environment
+    (fixed_size c.environment.level 0
+    + held_before c.environment.parts (variables_of_block c.environment.program c.environment.block) x.index)
+    (0 + x.index) d) (held_in c.environment)
+held_place w code c p numbers x d h own none is =
     let e = c.environment in
     let ds = variables_of_block e.program e.block in
     let first = fixed_size e.level 0 in
@@ -95,31 +104,45 @@ held_known w code c p numbers x d parts h own none is b =
     let less = slice_less ds x.index d there in
     let at = held_places e.parts first ds h.room.counted in
     let start : fixed_size e.level (length (parameters_of_block e.program e.block)) ≡ first =
-    ap (λ (ns : List ℕ). fixed_size e.level (length ns)) h.bare in
-    known_own w code c p numbers (held_in e) (word_made e (first + held_before e.parts ds x.index) (0 + x.index) d) x
-    parts (all_held w c p numbers h) (held_among e first 0 x.index ds d there none)
-    (record {
-      declared = is;
-      index = omega arith;
-      level = own.1 ∙ h.level;
-      own = h.level;
-      place =
-          ap (λ n. automatic_place e.parts e.program n x.level x.index) own.0
-          ∙ ap (λ n. automatic_place e.parts e.program e.block n x.index) own.1
-          ∙ ap (λ n. variable_place e.parts n ds x.index) start ∙ at x.index less;
-    })
-    b
+    ap (λ (ns : List ℕ). fixed_size e.level (length ns)) h.bare in (
+      record {
+        declared = is;
+        index = omega arith;
+        level = own.1 ∙ h.level;
+        own = h.level;
+        place =
+            ap (λ n. automatic_place e.parts e.program n x.level x.index) own.0
+            ∙ ap (λ n. automatic_place e.parts e.program e.block n x.index) own.1
+            ∙ ap (λ n. variable_place e.parts n ds x.index) start ∙ at x.index less;
+      },
+      held_among e first 0 x.index ds d there none,
+    )
+
+-- and is known in the block
+pub held_known :
+    (w : Surroundings) (code : List Instr) (c : Callee) (p : Point) (numbers : ℕ → ℕ) (x : Spot)
+    (d : Y.DeclaredVariable) → HasParts w.parts → HasAreas w code c p numbers →
+    (x.block ≡ c.environment.block) × (x.level ≡ c.environment.level) → is_based d ≡ false →
+    declared_variable c.environment.program (variable_of x) ≡ Some d → IsBegun (block_at w code c p numbers) →
+    IsKnown (block_at w code c p numbers) x d
+held_known w code c p numbers x d parts h own none is b =
+    let e = c.environment in
+    let ds = variables_of_block e.program e.block in
+    let o = held_place w code c p numbers x d h own none is in
+    known_begun w code c p numbers (held_in e)
+    (word_made e (fixed_size e.level 0 + held_before e.parts ds x.index) (0 + x.index) d) x parts
+    (all_held w code c p numbers h) o.1 o.0 b
 
 -- ---- as what they are
 
 pub held_word :
     (w : Surroundings) (code : List Instr) (c : Callee) (p : Point) (numbers : ℕ → ℕ) (x : Spot) →
-    HasParts w.parts → HasAreas w c p numbers → IsOwnWord c x → IsBegun (block_at w code c p numbers) →
+    HasParts w.parts → HasAreas w code c p numbers → IsOwnWord c x → IsBegun (block_at w code c p numbers) →
     IsNumber (block_at w code c p numbers) x
 held_word w code c p numbers x parts h own b =
     let there = found (declared_variable c.environment.program (variable_of x)) own.plain in
-    known_number (block_at w code c p numbers) x []
-    (held_known w code c p numbers x (number_declared []) parts h (own.block, own.level) refl there.is b)
+    known_number (block_at w code c p numbers) x there.initial
+    (held_known w code c p numbers x (number_declared there.initial) parts h (own.block, own.level) refl there.is b)
 
 array_other : (d : Y.DeclaredVariable) → is_array d ≡ true → is_based d ≡ false
 array_other d h = ap is_based (array_is d h)
@@ -132,7 +155,7 @@ area_other d h = let a = area_is d h in ap is_based a.is
 
 pub held_array :
     (w : Surroundings) (code : List Instr) (c : Callee) (p : Point) (numbers : ℕ → ℕ) (x : Spot) →
-    HasParts w.parts → HasAreas w c p numbers → IsOwnArray c x → IsBegun (block_at w code c p numbers) →
+    HasParts w.parts → HasAreas w code c p numbers → IsOwnArray c x → IsBegun (block_at w code c p numbers) →
     IsArray (block_at w code c p numbers) x (own_bounds c x)
 held_array w code c p numbers x parts h own b =
     let o = declared_variable c.environment.program (variable_of x) in
@@ -143,7 +166,7 @@ held_array w code c p numbers x parts h own b =
 
 pub held_narrow :
     (w : Surroundings) (code : List Instr) (c : Callee) (p : Point) (numbers : ℕ → ℕ) (x : Spot) →
-    HasParts w.parts → HasAreas w c p numbers → IsOwnNarrow c x → IsBegun (block_at w code c p numbers) →
+    HasParts w.parts → HasAreas w code c p numbers → IsOwnNarrow c x → IsBegun (block_at w code c p numbers) →
     IsScalar (block_at w code c p numbers) x (own_type c x)
 held_narrow w code c p numbers x parts h own b =
     let o = declared_variable c.environment.program (variable_of x) in
@@ -161,7 +184,7 @@ found_pointer (Some d) h = record { is = ap (λ d'. Some d') (pointer_is d h) }
 
 pub held_pointer :
     (w : Surroundings) (code : List Instr) (c : Callee) (p : Point) (numbers : ℕ → ℕ) (x : Spot) →
-    HasParts w.parts → HasAreas w c p numbers → IsOwnPointer c x → IsBegun (block_at w code c p numbers) →
+    HasParts w.parts → HasAreas w code c p numbers → IsOwnPointer c x → IsBegun (block_at w code c p numbers) →
     IsKnown (block_at w code c p numbers) x pointer_declared
 held_pointer w code c p numbers x parts h own b =
     let there = found_pointer (declared_variable c.environment.program (variable_of x)) own.pointer in
@@ -199,7 +222,7 @@ serial_in (Some b) = serial_of b.name
 -- its frame tells its name
 pub held_area :
     (w : Surroundings) (code : List Instr) (c : Callee) (p : Point) (numbers : ℕ → ℕ) (x : Spot) →
-    HasParts w.parts → HasAreas w c p numbers → IsOwnArea c x → IsBegun (block_at w code c p numbers) →
+    HasParts w.parts → HasAreas w code c p numbers → IsOwnArea c x → IsBegun (block_at w code c p numbers) →
     HasArea (block_at w code c p numbers) x
 unfolding serial_in serial_of
 held_area w code c p numbers x parts h own b =

@@ -1,15 +1,14 @@
 -- The name of an area among the variables of a block: the words of the block's frame tell it from where it is made.
 use Rattle.std.proofs.Common.{◌≡◌, ℕ, zero, suc, ◌+◌, ◌/◌, ◌^◌, ◌<◌, ◌≤◌, List, [], ◌∷◌, length, Option, None, Some}
 use Rattle.std.proofs.Common.{true, false, refl, sym, ap, ◌∙◌, subst, arith}
-use Rattle.std.specs.Prelude.{◌%◌, ◌==◌, Bool, cond, slice_get}
-use Rattle.std.proofs.lemmas.Bool.{eq-eqb}
+use Rattle.std.specs.Prelude.{◌%◌, ◌==◌, Bool, cond, nat_lt, slice_get}
+use Rattle.std.proofs.lemmas.Bool.{eq-eqb, lt-ltb}
 use Rattle.pli_typing.specs.TypedTree as Y
 use Rattle.pli_meaning.specs.BasicValues.{VariableName}
 use Rattle.pli_meaning.specs.DeclaredShapes.{shape_of}
 use Rattle.pli_meaning.specs.Making.{with_binding}
 use Rattle.pli_meaning.specs.StorageState.{Activation, Binding, binding_of}
 use Rattle.run_keeper.specs.RunKeeper.{run_keeper}
-use Rattle.pli_serving.specs.Arguments.{capacity_of}
 use Rattle.pli_coding.specs.Environments.{Environment}
 use Rattle.pli_coding.specs.Frames.{frame_bytes}
 use Rattle.storage_relation.proofs.Holders.{eqb-other}
@@ -17,7 +16,7 @@ use Rattle.activation_relation.specs.Layers.{Layer, Point}
 use Rattle.activation_relation.specs.Points.{Surroundings}
 use Rattle.program_runs.specs.Names.{name_told}
 use Rattle.program_runs.specs.Variables.{Declared, generation_for}
-use Rattle.variable_runs.specs.Lists.{all_made, behind_made, layer_after, layer_behind, told_by}
+use Rattle.variable_runs.specs.Lists.{all_made, behind_made, layer_after, layer_behind, told_if}
 use Rattle.variable_runs.proofs.Lists.{Binds}
 use Rattle.area_runs.specs.Allocations.{IsTold}
 use Rattle.number_runs.specs.Areas.{held_from}
@@ -83,21 +82,21 @@ name_above place serial told n less =
     (eqb-other n (place + 8) (λ e. omega (arith, e, less)))
     ∙ ap (λ q. cond q (Some (serial / 2 ^ 32)) (told n)) (eqb-other n (place + 12) (λ e. omega (arith, e, less)))
 
-told_above :
-    (o : Option ℕ) (place serial : ℕ) (told : ℕ → Option ℕ) (n : ℕ) → n < place →
-    told_by o place serial told n ≡ told n
-told_above None place serial told n less = refl
-told_above (Some c) place serial told n less = name_above place serial told n less
+if_above :
+    (q : Bool) (place serial : ℕ) (told : ℕ → Option ℕ) (n : ℕ) → n < place →
+    told_if q place serial told n ≡ told n
+if_above false place serial told n less = refl
+if_above true place serial told n less = name_above place serial told n less
 
 still_told :
-    (o : Option ℕ) (place serial : ℕ) (told : ℕ → Option ℕ) (at named : ℕ) → at + 16 ≤ place → IsTold told at named →
-    IsTold (told_by o place serial told) at named
-still_told o place serial told at named less h =
+    (q : Bool) (place serial : ℕ) (told : ℕ → Option ℕ) (at named : ℕ) → at + 16 ≤ place → IsTold told at named →
+    IsTold (told_if q place serial told) at named
+still_told q place serial told at named less h =
     record {
-      kind = told_above o place serial told at (omega (arith, less)) ∙ h.kind;
-      second = told_above o place serial told (at + 4) (omega (arith, less)) ∙ h.second;
-      low = told_above o place serial told (at + 8) (omega (arith, less)) ∙ h.low;
-      high = told_above o place serial told (at + 12) (omega (arith, less)) ∙ h.high;
+      kind = if_above q place serial told at (omega (arith, less)) ∙ h.kind;
+      second = if_above q place serial told (at + 4) (omega (arith, less)) ∙ h.second;
+      low = if_above q place serial told (at + 8) (omega (arith, less)) ∙ h.low;
+      high = if_above q place serial told (at + 12) (omega (arith, less)) ∙ h.high;
     }
 
 -- ---- a variable of the newest activation whose name is told
@@ -127,18 +126,17 @@ bound_now w p φ a as' d binds =
 
 -- where it has just been made
 named_new :
-    (w : Surroundings) (p : Point) (φ : Layer) (a : Activation) (as' : List Activation) (d : Declared)
-    (capacity : ℕ) → capacity_of (shape_of [] d.declared) ≡ Some capacity → p.state.serials + 1 < 2 ^ 64 →
-    Binds p a as' →
+    (w : Surroundings) (p : Point) (φ : Layer) (a : Activation) (as' : List Activation) (d : Declared) →
+    p.state.serials + 1 < 2 ^ 64 → Binds p a as' →
     IsNamed (behind_made w.parts φ d p) (layer_behind w.parts (p.state.serials + 1) φ d).told a as' d
-named_new w p φ a as' d capacity fixed few binds =
+named_new w p φ a as' d few binds =
     let serial = p.state.serials + 1 in
     record {
       serial = serial;
       binds = bound_now w p φ a as' d binds;
       bound =
           ap (λ t. cond t (Some (binding_now p d)) (binding_of binds.bindings d.index)) (eq-eqb d.index d.index refl);
-      told = subst (λ o. IsTold (told_by o d.place serial φ.told) d.place serial) (sym fixed)
+      told = subst (λ q. IsTold (told_if q d.place serial φ.told) d.place serial) (sym (lt-ltb serial (2 ^ 64) few))
           (name_here d.place serial φ.told);
       few = few;
     }
@@ -156,7 +154,7 @@ named_still w p φ a as' d y less above h =
       bound =
           ap (λ t. cond t (Some (binding_now p y)) (binding_of h.binds.bindings d.index))
           (eqb-other y.index d.index (λ e. omega (arith, e, less))) ∙ h.bound;
-      told = still_told (capacity_of (shape_of [] y.declared)) y.place serial φ.told d.place h.serial above h.told;
+      told = still_told (nat_lt serial (2 ^ 64)) y.place serial φ.told d.place h.serial above h.told;
       few = h.few;
     }
 
@@ -188,15 +186,6 @@ area_wide e d keeper h =
     let holds = (area_frame e.parts a.bytes keeper a.few).holds in
     subst (λ u. 16 ≤ frame_bytes e.parts u) (sym a.is) (omega (arith, holds))
 
-record HasCapacity (d : Y.DeclaredVariable) : Type 0 where
-  capacity : ℕ
-  fixed : capacity_of (shape_of [] d) ≡ Some capacity
-
-area_fixed : (d : Y.DeclaredVariable) → is_area d ≡ true → HasCapacity d
-area_fixed d h =
-    let a = area_is d h in
-    subst (λ u. HasCapacity u) (sym a.is) (record { capacity = _; fixed = refl })
-
 -- what is BASED is no area
 area_held : (d : Y.DeclaredVariable) → is_area d ≡ true → is_based d ≡ false
 area_held d h = let a = area_is d h in ap is_based a.is
@@ -214,7 +203,6 @@ named_each w e p φ a as' place index zero (u ∷ ds) d keeper area is few binds
     let same : u ≡ d = cc is in
     let y = word_made e place index d in
     let wide = area_wide e d keeper area in
-    let c = area_fixed d area in
     let at : place + 0 ≡ place = omega arith in
     let n : index + 0 ≡ index = omega arith in
     subst (λ v. IsNamed (all_made w.parts φ (held_from e place index (v ∷ ds)) p)
@@ -233,7 +221,7 @@ named_each w e p φ a as' place index zero (u ∷ ds) d keeper area is few binds
     (y ∷ held_from e (place + frame_bytes e.parts d) (index + 1) ds)).told a as' (word_made e place m d)) (sym n)
     (named_kept w e (behind_made w.parts φ y p) (layer_behind w.parts (p.state.serials + 1) φ y) a as' y
     (place + frame_bytes e.parts d) (index + 1) ds (omega arith) (omega (arith, wide))
-    (named_new w p φ a as' y c.capacity c.fixed (omega (arith, few)) binds)))))
+    (named_new w p φ a as' y (omega (arith, few)) binds)))))
 named_each w e p φ a as' place index (suc i) (u ∷ ds) d keeper area is few binds =
     let bytes = frame_bytes e.parts u in
     let before = held_before e.parts ds i in

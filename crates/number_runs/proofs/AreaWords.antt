@@ -4,6 +4,7 @@ use Rattle.std.proofs.Common.{◌≡◌, ◌⊎◌, inl, inr, ℕ, zero, suc, �
 use Rattle.std.proofs.Common.{Some, true, false, refl, sym, ap, ◌∙◌, subst, arith}
 use Rattle.std.specs.Prelude.{◌%◌, ◌||◌, Bool, if◌then◌else◌, min, slice_get}
 use Rattle.std.proofs.lemmas.Bool.{and_parts, or_cases}
+use Rattle.rv_meaning.specs.declared.instr.Instr.{Instr}
 use Rattle.pli_typing.specs.TypedTree as Y
 use Rattle.pli_meaning.specs.Contents.{footprint_of}
 use Rattle.pli_meaning.specs.Making.{living_at}
@@ -16,14 +17,15 @@ use Rattle.pli_coding.specs.Frames.{MemoryParts, automatic_place, frame_bytes, h
 use Rattle.pli_coding.specs.Frames.{last_place, variable_place}
 use Rattle.activation_relation.specs.Layers.{Layer, Point}
 use Rattle.activation_relation.specs.Points.{Surroundings}
+use Rattle.program_runs.specs.Initial.{Begins}
 use Rattle.program_runs.specs.Variables.{Declared, generation_for}
 use Rattle.variable_runs.specs.Areas.{IsArea}
-use Rattle.variable_runs.specs.Lists.{Among, AreDeclared, AreListed, AreThose, Declares, all_made, behind_made}
+use Rattle.variable_runs.specs.Lists.{AllMayBegin, Among, AreListed, AreThose, MayBegin, all_made, behind_made}
 use Rattle.variable_runs.specs.Lists.{layer_after, layer_behind, made_code}
 use Rattle.variable_runs.proofs.Lists.{next_layers}
 use Rattle.number_runs.specs.Areas.{held_bytes, held_from, with_held}
 use Rattle.number_runs.specs.Based.{is_area, is_based}
-use Rattle.number_runs.specs.Variables.{AreTabled, HaveRoom, IsTabled, are_any, is_any, is_declared}
+use Rattle.number_runs.specs.Variables.{AreTabled, EachBegins, HaveRoom, IsTabled, are_any, is_any, is_declared}
 use Rattle.number_runs.proofs.Areas.{area_frame, area_made, constant_area}
 use Rattle.number_runs.proofs.Based.{area_is, based_declared_is}
 use Rattle.number_runs.proofs.Declared.{makeable, sized}
@@ -103,15 +105,17 @@ based_other d h = ap (λ (u : Y.DeclaredVariable). is_automatic u.class) (based_
 -- ---- where they are made
 
 one_held :
-    (w : Surroundings) (p : Point) (φ : Layer) (φs : List Layer) (e : Environment) (place index more : ℕ)
-    (d : Y.DeclaredVariable) → w.parts.area_bytes ≡ run_keeper.bytes_for → (is_declared d || is_area d) ≡ true →
-    IsTabled e p.places.signatures d → p.state.serials + 1 < 2 ^ 64 →
-    HaveRoom w p φ φs place (frame_bytes w.parts d + more) → Declares w p (word_made e place index d) φ φs
-one_held w p φ φs e place index more d keeper h table serial room = by (or_cases (is_declared d) (is_area d) h)
+    (w : Surroundings) (code : List Instr) (p : Point) (φ : Layer) (φs : List Layer) (e : Environment)
+    (place index more : ℕ) (d : Y.DeclaredVariable) → w.parts.area_bytes ≡ run_keeper.bytes_for →
+    (is_declared d || is_area d) ≡ true → IsTabled e p.places.signatures d →
+    Begins p.places.constants code w.links.data' d → p.state.serials + 1 < 2 ^ 64 →
+    HaveRoom w p φ φs place (frame_bytes w.parts d + more) → MayBegin w code p (word_made e place index d) φ φs
+one_held w code p φ φs e place index more d keeper h table begins serial room =
+    by (or_cases (is_declared d) (is_area d) h)
   where
-    by : (is_declared d ≡ true) ⊎ (is_area d ≡ true) → Declares w p (word_made e place index d) φ φs
+    by : (is_declared d ≡ true) ⊎ (is_area d ≡ true) → MayBegin w code p (word_made e place index d) φ φs
     by (inl one) =
-        inl (one_declared w p φ φs e place index more d one table
+        inl (one_declared w code p φ φs e place index more d one table begins
         (subst (λ n. HaveRoom w p φ φs place (n + more)) ((makeable d one).frame w.parts) room))
     by (inr area) =
         let a = area_is d area in
@@ -160,26 +164,27 @@ next_serial : (serials count : ℕ) → serials + suc count < 2 ^ 64 → (serial
 next_serial serials count h = omega (arith, h)
 
 pub held_declared :
-    (w : Surroundings) (p : Point) (φ : Layer) (φs : List Layer) (e : Environment) (place index : ℕ)
-    (ds : List Y.DeclaredVariable) → e.parts ≡ w.parts → w.parts.area_bytes ≡ run_keeper.bytes_for →
-    are_any ds ≡ true → AreTabled e p.places.signatures ds → p.state.serials + length ds < 2 ^ 64 →
-    HaveRoom w p φ φs place (held_bytes w.parts ds) → AreDeclared w p φ φs (held_from e place index ds)
-held_declared w p φ φs e place index [] same keeper is tabled few h = tt
-held_declared w p φ φs e place index (d ∷ ds) same keeper is tabled few h =
+    (w : Surroundings) (code : List Instr) (p : Point) (φ : Layer) (φs : List Layer) (e : Environment)
+    (place index : ℕ) (ds : List Y.DeclaredVariable) → e.parts ≡ w.parts →
+    w.parts.area_bytes ≡ run_keeper.bytes_for → are_any ds ≡ true → AreTabled e p.places.signatures ds →
+    EachBegins p.places.constants code w.links.data' ds → p.state.serials + length ds < 2 ^ 64 →
+    HaveRoom w p φ φs place (held_bytes w.parts ds) → AllMayBegin w code p φ φs (held_from e place index ds)
+held_declared w code p φ φs e place index [] same keeper is tabled begin few h = tt
+held_declared w code p φ φs e place index (d ∷ ds) same keeper is tabled begin few h =
     let a = and_parts (is_any d) (are_any ds) is in
     let x = word_made e place index d in
     let rest = held_from e (place + frame_bytes e.parts d) (index + 1) ds in
     let at = ap (λ parts. place + frame_bytes parts d) same in
-    held_cases (λ xs. AreDeclared w p φ φs xs) (is_based d) x rest
+    held_cases (λ xs. AllMayBegin w code p φ φs xs) (is_based d) x rest
     (λ based.
-    held_declared w p φ φs e (place + frame_bytes e.parts d) (index + 1) ds same keeper a.1 tabled.1
+    held_declared w code p φ φs e (place + frame_bytes e.parts d) (index + 1) ds same keeper a.1 tabled.1 begin.1
     (omega (arith, few))
     (subst (λ n. HaveRoom w p φ φs n (held_bytes w.parts ds)) (sym at)
     (based_room w p φ φs place (held_bytes w.parts ds) d based h)))
     (λ none. let one = held_is d a.0 none in (
-      one_held w p φ φs e place index (held_bytes w.parts ds) d keeper one tabled.0 (omega (arith, few)) h,
-      held_declared w (behind_made w.parts φ x p) (layer_behind w.parts (p.state.serials + 1) φ x) φs e
-          (place + frame_bytes e.parts d) (index + 1) ds same keeper a.1 tabled.1
+      one_held w code p φ φs e place index (held_bytes w.parts ds) d keeper one tabled.0 begin.0 (omega (arith, few)) h,
+      held_declared w code (behind_made w.parts φ x p) (layer_behind w.parts (p.state.serials + 1) φ x) φs e
+          (place + frame_bytes e.parts d) (index + 1) ds same keeper a.1 tabled.1 begin.1
           (next_serial p.state.serials (length ds) few)
           (subst (λ n. HaveRoom w (behind_made w.parts φ x p)
           (layer_behind w.parts (p.state.serials + 1) φ x) φs n (held_bytes w.parts ds)) (sym at)

@@ -1,6 +1,6 @@
 -- Arrays that the class admits: what is declared, references to elements, and their subscripts.
 use Rattle.std.proofs.Common.{◌≡◌, ◌⊎◌, inl, inr, ℕ, ◌+◌, ◌^◌, ◌≤◌, List, [], ◌∷◌, Option, None, Some, false, true}
-use Rattle.std.proofs.Common.{refl, sym, ap, ◌∙◌}
+use Rattle.std.proofs.Common.{refl, sym, ap, ◌∙◌, subst}
 use Rattle.std.specs.Prelude.{◌&&◌, ◌||◌, ◌==◌, int_le, max, nat_lt, not}
 use Rattle.std.proofs.lemmas.Bool.{and_parts, eqb-true, ltb-true, or_cases}
 use Rattle.pli_language.specs.Tree as T
@@ -13,6 +13,7 @@ use Rattle.expression_runs.specs.Values.{Setting}
 use Rattle.expression_runs.specs.Variables.{Spot, variable_of}
 use Rattle.element_runs.specs.Arrays.{IsBounds, array_declared, array_leaf, constant_bounds, element}
 use Rattle.element_runs.specs.Subscripts.{IsSubscript}
+use Rattle.number_runs.specs.Initial.{are_values, values_in, values_of}
 use Rattle.number_runs.specs.Arrays.{are_bounds, array_bounds, bounds_in, first_bounds, is_array, is_array_of, is_row}
 use Rattle.number_runs.specs.Knowledge.{KnowsNumbers}
 use Rattle.number_runs.specs.Narrow.{is_number_type}
@@ -40,17 +41,18 @@ constants_are (Y.EvaluatedExtent place) u h = absurd (cc h)
 
 row_is :
     (t : Y.LeafType) (bs : List Y.Bounds) (initial : List T.InitialItem) → is_row t bs initial ≡ true →
-    ((λ (l : Y.Leaf). l) (record { type = t; bounds = bs; initial = initial }) ≡ array_leaf (first_bounds bs) [])
-    × IsBounds (first_bounds bs)
-row_is (Y.FixedLeaf precision) (b ∷ []) [] h =
-    let a = and_parts (precision == 31) (are_bounds b.lower b.upper) h in
-    let c = constants_are b.lower b.upper a.1 in (
-      ap (λ n. let l : Y.Leaf = record { type = Y.FixedLeaf n; bounds = b ∷ []; initial = [] } in l)
-          (eqb-true precision 31 a.0)
-          ∙ ap (λ b'. let l : Y.Leaf = record { type = Y.FixedLeaf 31; bounds = b' ∷ []; initial = [] } in l) c.0,
-      c.1,
+    ((λ (l : Y.Leaf). l) (record { type = t; bounds = bs; initial = initial }) ≡ array_leaf (first_bounds bs) initial)
+    × (IsBounds (first_bounds bs) × (are_values (Y.FixedLeaf 31) initial ≡ true))
+row_is (Y.FixedLeaf precision) (b ∷ []) initial h =
+    let values = are_values (Y.FixedLeaf precision) initial in
+    let a = and_parts (precision == 31) (are_bounds b.lower b.upper && values) h in
+    let d = and_parts (are_bounds b.lower b.upper) values a.1 in
+    let c = constants_are b.lower b.upper d.0 in
+    let same = eqb-true precision 31 a.0 in (
+      ap (λ n. let l : Y.Leaf = record { type = Y.FixedLeaf n; bounds = b ∷ []; initial = initial } in l) same
+          ∙ ap (λ b'. let l : Y.Leaf = record { type = Y.FixedLeaf 31; bounds = b' ∷ []; initial = initial } in l) c.0,
+      (c.1, subst (λ n. are_values (Y.FixedLeaf n) initial ≡ true) same d.1),
     )
-row_is (Y.FixedLeaf precision) (b ∷ []) (i ∷ is) h = absurd (cc h)
 row_is (Y.FixedLeaf precision) (b ∷ c ∷ bs) initial h = absurd (cc h)
 row_is (Y.FixedLeaf precision) [] initial h = absurd (cc h)
 row_is (Y.CharacterLeaf size) bs initial h = absurd (cc h)
@@ -67,7 +69,8 @@ declared_by c ms ls r es = record { class = c; members = ms; leaves = ls; refer 
 declared_is :
     (c : Y.StorageClass) (ms : List Y.Member) (ls : List Y.Leaf) (r : Option Y.ReferMember) (es : List Y.Evaluation) →
     is_array_of c ms ls r es ≡ true →
-    (declared_by c ms ls r es ≡ array_declared (bounds_in ls) []) × IsBounds (bounds_in ls)
+    (declared_by c ms ls r es ≡ array_declared (bounds_in ls) (values_in ls))
+    × (IsBounds (bounds_in ls) × (are_values (Y.FixedLeaf 31) (values_in ls) ≡ true))
 declared_is Y.AutomaticClass (m ∷ []) (l ∷ []) None [] h =
     let row = is_row l.type l.bounds l.initial in
     let a = and_parts (m.depth == 0) ((m.dimensions == 1) && row) h in
@@ -91,11 +94,14 @@ declared_is Y.StaticClass ms ls r es h = absurd (cc h)
 declared_is Y.BasedClass ms ls r es h = absurd (cc h)
 declared_is Y.ControlledClass ms ls r es h = absurd (cc h)
 
-pub array_is : (d : Y.DeclaredVariable) → is_array d ≡ true → d ≡ array_declared (array_bounds d) []
+pub array_is : (d : Y.DeclaredVariable) → is_array d ≡ true → d ≡ array_declared (array_bounds d) (values_of d)
 array_is d h = (declared_is d.class d.members d.leaves d.refer d.evaluations h).0
 
 pub bounds_are : (d : Y.DeclaredVariable) → is_array d ≡ true → IsBounds (array_bounds d)
-bounds_are d h = (declared_is d.class d.members d.leaves d.refer d.evaluations h).1
+bounds_are d h = (declared_is d.class d.members d.leaves d.refer d.evaluations h).1.0
+
+pub array_values : (d : Y.DeclaredVariable) → is_array d ≡ true → are_values (Y.FixedLeaf 31) (values_of d) ≡ true
+array_values d h = (declared_is d.class d.members d.leaves d.refer d.evaluations h).1.1
 
 -- ---- references
 

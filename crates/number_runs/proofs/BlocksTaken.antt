@@ -1,5 +1,5 @@
 -- What the temporaries of a block take: its frame has the words that its statements set aside, and no more.
-use Rattle.std.proofs.Common.{◌≡◌, ◌⊎◌, inl, inr, ℕ, ◌+◌, ◌<◌, ◌≤◌, List, [], ◌∷◌, ◌++◌, true, refl, sym}
+use Rattle.std.proofs.Common.{◌≡◌, ◌⊎◌, inl, inr, ℕ, ◌<◌, ◌≤◌, List, [], ◌∷◌, ◌++◌, true, refl, sym}
 use Rattle.std.proofs.Common.{ap, ◌∙◌, subst, arith, false}
 use Rattle.std.specs.Prelude.{◌||◌, Bool, if◌then◌else◌}
 use Rattle.std.proofs.lemmas.Bool.{and_from, and_parts, or_cases, or_left, or_right}
@@ -35,8 +35,10 @@ text_takes_none true n some few = refl
 
 declared_takes : (d : Y.DeclaredVariable) → is_declared d ≡ true → variable_takes d ≡ none_taken
 declared_takes d h =
-    of_declared (λ d'. variable_takes d' ≡ none_taken) refl (λ b is. refl)
-    (by_narrow (λ t. variable_takes (scalar_declared t []) ≡ none_taken) (λ p is. refl) refl text_takes_none) refl d h
+    of_declared (λ d'. variable_takes d' ≡ none_taken) (λ initial fit. refl) (λ b is initial fit. refl)
+    (λ t is initial fit.
+    by_narrow (λ u. variable_takes (scalar_declared u []) ≡ none_taken) (λ p is'. refl) refl text_takes_none t is) refl
+    d h
 
 known_takes :
     (d : Y.DeclaredVariable) → (is_any d ≡ true) ⊎ (is_parameter d ≡ true) → variable_takes d ≡ none_taken

@@ -1,8 +1,9 @@
 -- Numbers, tests and texts of the class: each leaves what it means, by the law of its form.
 use Rattle.std.proofs.Common.{◌≡◌, ◌⊎◌, inl, inr, ℕ, ◌+◌, ◌*◌, ◌^◌, ◌≤◌, List, ◌∷◌, length, Option, Some, true, refl}
 use Rattle.std.proofs.Common.{sym, ap, ◌<◌, ◌∙◌, subst, arith, [], false}
-use Rattle.std.specs.Prelude.{◌&&◌, ◌==◌, cond, max, suc, nat_le, nat_lt}
+use Rattle.std.specs.Prelude.{◌&&◌, ◌==◌, ◌/◌, ◌%◌, cond, max, suc, nat_le, nat_lt}
 use Rattle.storage_relation.proofs.Holders.{eqb-other}
+use Rattle.storage_relation.proofs.Placing.{none_above}
 use Rattle.rv_meaning.specs.Words.{word}
 use Rattle.std.proofs.lemmas.Bool.{and_parts, eqb-true, ltb-true, or_cases, leb-true}
 use Rattle.pli_typing.specs.TypedTree as Y
@@ -12,8 +13,11 @@ use Rattle.activation_relation.specs.Layers.{Layer}
 use Rattle.pli_meaning.specs.Texts.{most_text}
 use Rattle.pli_serving.specs.ServiceState.{Entry, TextEntry}
 use Rattle.pli_coding.specs.Assembly.{ConstantBytes}
+use Rattle.program_runs.specs.Statements.{Block}
 use Rattle.expression_runs.specs.Laws.{Does}
 use Rattle.expression_runs.specs.Values.{Setting}
+use Rattle.condition_codes.proofs.Codes.{code_does}
+use Rattle.expression_runs.specs.Variables.{Spot, variable_of, whole}
 use Rattle.expression_runs.proofs.Operands.{constant_does}
 use Rattle.expression_runs.proofs.Sums.{difference_does, sum_does}
 use Rattle.expression_runs.proofs.VariablePoints.{variable_does}
@@ -37,26 +41,30 @@ use Rattle.text_values.proofs.Comparisons.{above_bit, alone_bit, texts_compare}
 use Rattle.text_values.proofs.Constants.{constant_pushes}
 use Rattle.text_values.proofs.Conversions.{bit_pushes, text_tells}
 use Rattle.text_values.proofs.Variables.{variable_pushes}
+use Rattle.argument_runs.specs.Parameters.{IsParameter, parameter, parameter_of}
 use Rattle.argument_runs.proofs.Parameters.{parameter_does}
 use Rattle.counter_runs.proofs.Known.{array_told, number_told}
 use Rattle.counter_runs.proofs.Words.{begun_telling}
 use Rattle.list_calls.specs.Arguments.{EachGives, setting_told}
-use Rattle.list_calls.specs.Lists.{value_told}
+use Rattle.list_calls.specs.ListKnown.{IsStored}
+use Rattle.list_calls.specs.Lists.{name_told, value_told}
+use Rattle.list_calls.proofs.VariablesPassed.{variables_passed}
 use Rattle.word_runs.specs.Words.{with_word}
 use Rattle.number_runs.specs.Knowledge.{HasLists, IsFree, KnowsGiven, KnowsNumbers, given_number, most_set}
 use Rattle.number_runs.specs.Knowledge.{KnowsConstants}
-use Rattle.number_runs.specs.Numbers.{Scope, are_arguments, are_numbers, argument_needs, argument_sets}
+use Rattle.number_runs.specs.Numbers.{Scope, are_arguments, are_numbers}
 use Rattle.number_runs.specs.Numbers.{arguments_need, arguments_set, bounds_known, call_needs, call_sets, gives_lists}
 use Rattle.number_runs.specs.Numbers.{is_argument, is_element, is_fixed, is_given, is_number, is_reference, is_test}
 use Rattle.number_runs.specs.Numbers.{is_variable, may_calculate, number_needs, number_sets, numbers_need}
 use Rattle.number_runs.specs.Numbers.{numbers_set, reference_needs, reference_sets, test_needs, test_sets, type_known}
 use Rattle.number_runs.specs.Numbers.{is_narrow_with, is_wider, is_precision, is_text, text_needs, without_given}
-use Rattle.number_runs.specs.Numbers.{IsBare, without_located}
+use Rattle.number_runs.specs.Numbers.{IsBare, is_known, is_passed, is_received, without_located}
 use Rattle.number_runs.specs.Narrow.{is_number_type, is_text_type}
 use Rattle.number_runs.proofs.Arrays.{element_is, subscript_given}
 use Rattle.number_runs.proofs.Narrow.{flag_does, narrow_does, narrow_told, narrow_with_is, text_known, text_type_is}
-use Rattle.number_runs.proofs.Received.{parameter_told, stored_untold}
-use Rattle.number_runs.proofs.Variables.{argument_is, parameter_is, variable_is, ways_are, ways_many, ways_of}
+use Rattle.list_calls.proofs.ParametersPassed.{parameter_told, parameters_passed}
+use Rattle.number_runs.proofs.Received.{named_told, passable_told, stored_untold}
+use Rattle.number_runs.proofs.Variables.{Names, Passable, parameter_is, variable_is, ways_are, ways_many, ways_of}
 use Rattle.number_runs.proofs.Variables.{ways_stored}
 use Rattle.number_runs.proofs.Turns.{telling_same}
 use Rattle.number_runs.proofs.Waiting.{numbers_wait, numbers_without, texts_without, texts_unlocated}
@@ -158,6 +166,23 @@ pub setting_same :
     setting_told k k.words φ.waits φ φs ≡ k
 setting_same k φ φs newest = ap (λ q. record k { block = q }) (telling_same k.block φ φs newest)
 
+-- ---- what is passed by reference
+
+name_free :
+    (last serial signature all : ℕ) (told : ℕ → Option ℕ) → IsFree told all → last + 6 ≤ all →
+    IsFree (name_told last serial signature 0 told) all
+name_free last serial signature all told free inside =
+    word_free last 0 all _
+    (word_free (last + 1) signature all _
+    (word_free (last + 2) (serial / 2 ^ 32) all _
+    (word_free (last + 3) (serial % 2 ^ 32) all _
+    (word_free (last + 4) 0 all _ (word_free (last + 5) 1 all told free (omega (arith, inside)))
+    (omega (arith, inside)))
+    (omega (arith, inside)))
+    (omega (arith, inside)))
+    (omega (arith, inside)))
+    (omega (arith, inside))
+
 -- whatever words tell as much is known, but of nothing that is BASED
 abbrev numbers_told :
     (s : Scope) → (k : Setting) → KnowsNumbers s k → (g : KnowsGiven s k) → (words : ℕ) → words ≤ most_set →
@@ -175,6 +200,7 @@ numbers_told s k h g words few waits free =
       narrows = λ may x is.
           narrow_told k.block g.layer g.others waits g.newest x (type_known s x) (h.narrows may x is);
       parameters = λ x is. parameter_told k.block g.layer g.others waits g.newest x (h.parameters x is);
+      codes = h.codes;
       functions = λ level n is. g.functions words few waits level n is;
       texts = λ may. texts_unlocated (g.texts may words few waits);
       given = λ may. record {
@@ -186,6 +212,7 @@ numbers_told s k h g words few waits free =
         overflow = g.overflow;
         divisor = g.divisor;
         subscript = g.subscript;
+        passable = λ x is. passable_told k.block g.layer g.others waits g.newest x (g.passable x is);
         functions = g.functions;
         texts = λ may' words' few' waits'. texts_unlocated (g.texts may' words' few' waits');
         given = λ words' waits' level n need ways some stored free' room is give.
@@ -208,33 +235,100 @@ no_lists :
     {s : Scope} {k : Setting} (h : KnowsNumbers s k) (n : ℕ) → IsBare s → HasLists h n
 no_lists {s} h n none may = absurd (cc (sym none.0 ∙ (and_parts s.gives s.counts may).0))
 
+-- a parameter stands for what is stored
+parameter_stored : (k : Block) (x : Spot) (is : IsParameter k x) → IsStored k.first is.serial is.signature
+parameter_stored k x is =
+    let less = none_above (k.first.state.serials + 1) k.first.state.living is.serial is.living
+    is.begun.resumes.stands.lives.falling is.lives in
+    record {
+      old = omega (arith, less);
+      living = is.living;
+      lives = is.lives;
+      shape = is.shape;
+      numbered = is.numbered;
+      small = is.small;
+      number = is.number;
+      low = is.low;
+      inside = is.inside;
+    }
+
+variable_passable :
+    (s : Scope) (k : Setting) → KnowsNumbers s k → (g : KnowsGiven s k) (x : Spot) → is_known s x ≡ true →
+    Passable k g.layer g.others (whole x)
+variable_passable s k h g x known =
+    let p = g.passable x known in
+    record {
+      variable = variable_of x;
+      is = refl;
+      serial = p.serial;
+      signature = p.signature;
+      stored = p.stored;
+      passes = λ words waits.
+          variables_passed (setting_told k words waits g.layer g.others) x (with_waits waits g.layer) g.others
+          p.serial p.signature (begun_telling k.block g.layer g.others waits g.newest h.begun) refl
+          (named_told k.block g.layer g.others waits g.newest x p.serial p.signature p.named);
+    }
+
+parameter_passable :
+    (s : Scope) (k : Setting) → KnowsNumbers s k → (g : KnowsGiven s k) (x : Spot) → is_received s x ≡ true →
+    Passable k g.layer g.others (parameter x)
+unfolding parameter_told
+parameter_passable s k h g x known =
+    let p = h.parameters x known in
+    record {
+      variable = parameter_of x;
+      is = refl;
+      serial = p.serial;
+      signature = p.signature;
+      stored = parameter_stored k.block x p;
+      passes = λ words waits.
+          parameters_passed (setting_told k words waits g.layer g.others) x (with_waits waits g.layer) g.others
+          (begun_telling k.block g.layer g.others waits g.newest h.begun) refl
+          (parameter_told k.block g.layer g.others waits g.newest x p);
+    }
+
+-- what may be an argument by reference may be passed
+pub names_in : (s : Scope) (k : Setting) → KnowsNumbers s k → (g : KnowsGiven s k) →
+    Names (without_located s) k g.layer g.others
+names_in s k h g r is = by (or_cases (is_variable s r) (is_given s r) is)
+  where
+    by : (is_variable s r ≡ true) ⊎ (is_given s r ≡ true) → Passable k g.layer g.others r
+    by (inl one) =
+        let w = variable_is s r one in
+        subst (λ q. Passable k g.layer g.others q) (sym w.is) (variable_passable s k h g w.spot w.known)
+    by (inr one) =
+        let w = parameter_is s r one in
+        subst (λ q. Passable k g.layer g.others q) (sym w.is) (parameter_passable s k h g w.spot w.known)
+
 -- a call, if its arguments do what they mean
 called_does :
     (s : Scope) (k : Setting) (number level : ℕ) (xs : Y.Arguments) (h : KnowsNumbers s k) →
     is_number s (Y.NumberFrom (Y.Calling number level xs)) ≡ true → HasLists h (call_sets (Y.Calling number level xs)) →
     ((g : KnowsGiven s k) (words all : ℕ) (waits told : ℕ → Option ℕ)
     (is : are_arguments (without_located s) xs ≡ true) →
-    words + argument_words * length (ways_of (without_located s) xs is) ≤ all → all + arguments_set xs ≤ g.layer.words →
-    IsFree told all →
+    words + argument_words * length (ways_of (without_located s) (names_in s k h g) xs is) ≤ all →
+    all + arguments_set xs ≤ g.layer.words → IsFree told all →
     EachGives (setting_told k words waits g.layer g.others) (arguments_need xs) (with_waits waits g.layer) g.others
     words
-    all told (ways_of (without_located s) xs is)) →
+    all told (ways_of (without_located s) (names_in s k h g) xs is)) →
     Does k (arguments_need xs) (Y.NumberFrom (Y.Calling number level xs))
 called_does s k number level Y.NoArgument h is room give = h.functions level number is
 called_does s k number level (Y.ArgumentThen first rest) h is room give =
     let xs = Y.ArgumentThen first rest in
+    let u = without_located s in
     let taken = s.is_given_function (suc (argument_count rest)) level number in
-    let a = and_parts (gives_lists s) (taken && are_arguments (without_located s) xs) is in
-    let b = and_parts taken (are_arguments (without_located s) xs) a.1 in
+    let a = and_parts (gives_lists s) (taken && are_arguments u xs) is in
+    let b = and_parts taken (are_arguments u xs) a.1 in
     let g = h.given a.0 in
-    let ways = ways_of (without_located s) xs b.1 in
-    let many = ways_many (without_located s) xs b.1 in
+    let names = names_in s k h g in
+    let ways = ways_of u names xs b.1 in
+    let many = ways_many u names xs b.1 in
     let enough = room a.0 in
     let need = arguments_need xs in
-    subst (λ q. Does k need (Y.NumberFrom (Y.Calling number level q))) (ways_are (without_located s) xs b.1)
+    subst (λ q. Does k need (Y.NumberFrom (Y.Calling number level q))) (ways_are u names xs b.1)
     (subst (λ q. Does q need (given_number level number ways)) (setting_same k g.layer g.others g.newest)
     (g.given k.words g.layer.waits level number need ways (omega (arith, many))
-    (ways_stored (without_located s) xs b.1 k.block.first) g.free (omega (arith, enough, many))
+    (ways_stored u names xs b.1) g.free (omega (arith, enough, many))
     (subst (λ n. s.is_given_function n level number ≡ true) (sym many) b.0)
     (give g k.words (k.words + argument_words * length ways) g.layer.waits g.layer.waits b.1 (omega arith)
     (omega (arith, enough, many)) (λ n low. g.free n (omega (arith, low))))))
@@ -353,7 +447,7 @@ mutual
   number_does s k (Y.UpperBound r n) h is room = absurd (cc is)
   number_does s k (Y.ElementsOf r n) h is room = absurd (cc is)
   number_does s k (Y.AllocationsOf v) h is room = absurd (cc is)
-  number_does s k Y.OnCode h is room = absurd (cc is)
+  number_does s k Y.OnCode h is room = code_does k (h.codes is)
 
   call_does :
       (s : Scope) (k : Setting) (c : Y.Call) (h : KnowsNumbers s k) → is_number s (Y.NumberFrom c) ≡ true →
@@ -367,41 +461,58 @@ mutual
   pub arguments_give :
       (s : Scope) (k : Setting) (xs : Y.Arguments) (h : KnowsNumbers s k) (g : KnowsGiven s k) (words all need : ℕ)
       (waits told : ℕ → Option ℕ) (is : are_arguments (without_located s) xs ≡ true) → arguments_need xs ≤ need →
-      words + argument_words * length (ways_of (without_located s) xs is) ≤ all →
+      words + argument_words * length (ways_of (without_located s) (names_in s k h g) xs is) ≤ all →
       all + arguments_set xs ≤ g.layer.words → IsFree told all →
       EachGives (setting_told k words waits g.layer g.others) need (with_waits waits g.layer) g.others words all told
-      (ways_of (without_located s) xs is)
+      (ways_of (without_located s) (names_in s k h g) xs is)
   arguments_give s k Y.NoArgument h g words all need waits told is few many room free = tt
-  arguments_give s k (Y.ArgumentThen first rest) h g words all need waits told is few many room free =
+  arguments_give s k (Y.ArgumentThen (Y.ByCopy type (Y.StoredNumber precision x)) rest) h g words all need waits told is
+      few many room free =
       let u = without_located s in
+      let first = Y.ByCopy type (Y.StoredNumber precision x) in
       let a = and_parts (is_argument u first) (are_arguments u rest) is in
-      let us = ways_of u rest a.1 in
+      let b = and_parts (is_fixed type) ((precision == 31) && is_number u x) a.0 in
+      let us = ways_of u (names_in s k h g) rest a.1 in
       let most' = g.few in
-      let x = (argument_is u first a.0).number in
       let k' = setting_told k all told g.layer g.others in (
-        more_registers k' (argument_needs first) need x (omega (arith, few))
-            (argument_does u k' first (numbers_told s k h g all (omega (arith, most', room)) told free) a.0
-            (λ may. omega (arith, room))),
+        more_registers k' (number_needs x) need x (omega (arith, few))
+            (number_does u k' x (numbers_told s k h g all (omega (arith, most', room)) told free)
+            (and_parts (precision == 31) (is_number u x) b.1).1 (λ may. omega (arith, room))),
         λ z wide. arguments_give s k rest h g words all need waits
             (value_told (words + argument_words * length us) (word z) told) a.1 (omega (arith, few))
             (omega (arith, many))
             (omega (arith, room))
             (told_free (words + argument_words * length us) (word z) all told free (omega (arith, many))),
       )
-
-  argument_does :
-      (s : Scope) (k : Setting) (x : Y.Argument) (h : KnowsNumbers s k) (is : is_argument s x ≡ true) →
-      HasLists h (argument_sets x) → Does k (argument_needs x) (argument_is s x is).number
-  argument_does s k (Y.ByCopy type (Y.StoredNumber precision x)) h is room =
-      let a = and_parts (is_fixed type) ((precision == 31) && is_number s x) is in
-      number_does s k x h (and_parts (precision == 31) (is_number s x) a.1).1 room
-  argument_does s k (Y.ByCopy type (Y.StoredText x)) h is room = absurd (cc is)
-  argument_does s k (Y.ByCopy type (Y.StoredBit x)) h is room = absurd (cc is)
-  argument_does s k (Y.ByCopy type (Y.StoredPointer x)) h is room = absurd (cc is)
-  argument_does s k (Y.ByCopy type (Y.StoredOffset x)) h is room = absurd (cc is)
-  argument_does s k (Y.ByReference r) h is room = absurd (cc is)
-  argument_does s k (Y.ByOffsetInParameter p parameter) h is room = absurd (cc is)
-  argument_does s k (Y.ByOffsetInAutomatic p) h is room = absurd (cc is)
+  arguments_give s k (Y.ArgumentThen (Y.ByReference r) rest) h g words all need waits told is few many room free =
+      let u = without_located s in
+      let a = and_parts (is_passed u r) (are_arguments u rest) is in
+      let us = ways_of u (names_in s k h g) rest a.1 in
+      let n = names_in s k h g r a.0 in
+      let last = words + argument_words * length us in (
+        n.passes words waits,
+        arguments_give s k rest h g words all need waits (name_told last n.serial n.signature 0 told) a.1
+            (omega (arith, few)) (omega (arith, many)) (omega (arith, room))
+            (name_free last n.serial n.signature all told free (omega (arith, many))),
+      )
+  arguments_give s k (Y.ArgumentThen (Y.ByCopy type (Y.StoredText x)) rest) h g words all need waits told is few many
+      room free =
+      absurd (cc is)
+  arguments_give s k (Y.ArgumentThen (Y.ByCopy type (Y.StoredBit x)) rest) h g words all need waits told is few many
+      room free =
+      absurd (cc is)
+  arguments_give s k (Y.ArgumentThen (Y.ByCopy type (Y.StoredPointer x)) rest) h g words all need waits told is few many
+      room free =
+      absurd (cc is)
+  arguments_give s k (Y.ArgumentThen (Y.ByCopy type (Y.StoredOffset x)) rest) h g words all need waits told is few many
+      room free =
+      absurd (cc is)
+  arguments_give s k (Y.ArgumentThen (Y.ByOffsetInParameter p parameter) rest) h g words all need waits told is few many
+      room free =
+      absurd (cc is)
+  arguments_give s k (Y.ArgumentThen (Y.ByOffsetInAutomatic p) rest) h g words all need waits told is few many room
+      free =
+      absurd (cc is)
 
   reference_does :
       (s : Scope) (k : Setting) (r : Y.Reference) (h : KnowsNumbers s k) → is_reference s r ≡ true →

@@ -43,7 +43,7 @@ use Rattle.area_assignments.specs.Copying.{copying}
 use Rattle.area_assignments.specs.Emptying.{emptying}
 use Rattle.area_freeings.specs.Freeing.{freeing}
 use Rattle.number_runs.proofs.Arrays.{element_is, subscript_given}
-use Rattle.number_runs.proofs.Expressions.{arguments_give, number_does}
+use Rattle.number_runs.proofs.Expressions.{arguments_give, names_in, number_does}
 use Rattle.number_runs.proofs.Turns.{telling_same}
 use Rattle.number_runs.proofs.Variables.{fixed_is, parameter_is, variable_is, ways_are, ways_many, ways_of}
 use Rattle.number_runs.proofs.Variables.{ways_stored}
@@ -135,6 +135,7 @@ given_in {s} r words c may low labels line includes =
       newest = l.newest;
       few = l.few;
       free = λ n at. l.free n (omega (arith, low, at));
+      passable = g.passable;
       overflow = λ may' words' few waits.
           (l.raises waits).overflow may' words' (few, λ none. absurd (cc (sym c ∙ none))) labels line includes;
       divisor = λ may' words' few waits.
@@ -170,6 +171,7 @@ knows_in {s} {k = k} {most = most} r words set low plain labels line includes =
       arrays = r.arrays;
       narrows = r.narrows;
       parameters = r.parameters;
+      codes = r.codes;
       functions = λ level n is. r.calls.functions words set labels line level n includes is;
       texts = λ may. texts_in r words set may labels line includes;
       given = λ may.
@@ -511,16 +513,17 @@ passed_does h labels number level first rest line index includes is may taken gi
     let l = h.ready.loops c.1 in
     let k = setting_around h.words h.block labels line h.most in
     let knows' = knows h labels line includes in
-    let ways = ways_of u xs given in
-    let many = ways_many u xs given in
+    let names = names_in s k knows' (knows'.given may) in
+    let ways = ways_of u names xs given in
+    let many = ways_many u names xs given in
     let room = (sets c.1).1 in
     let low = h.low c.1 in
     let need = arguments_need xs in
-    subst (λ q. Coded h labels (Y.CallProcedure (Y.Calling number level q) line) index) (ways_are u xs given)
+    subst (λ q. Coded h labels (Y.CallProcedure (Y.Calling number level q) line) index) (ways_are u names xs given)
     (λ code. subst (λ q. DoesWith h.words q labels (given_statement level number line ways) index h.left')
     (telling_same h.block l.layer l.others l.newest)
     ((l.given c.0).procedures h.words l.layer.waits labels level number line index need ways
-    (omega (arith, many)) (ways_stored u xs given h.block.first) includes
+    (omega (arith, many)) (ways_stored u names xs given) includes
     (λ n at. l.free n (omega (arith, at, low))) (omega (arith, room, many))
     (subst (λ n. s.is_given_procedure n level number ≡ true) (sym many) taken) (ltb-true line (2 ^ 31) is) fits code
     (arguments_give s k xs knows' (knows'.given may) h.words (h.words + argument_words * length ways) need l.layer.waits

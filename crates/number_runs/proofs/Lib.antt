@@ -1,3 +1,4 @@
+pub mod Initial
 pub mod Variables
 pub mod Narrow
 pub mod Based

@@ -22,6 +22,7 @@ use Rattle.scalar_runs.specs.Scalars.{IsScalar, scalar_declared, scalar_leaf}
 use Rattle.text_values.specs.Variables.{IsText}
 use Rattle.scalar_runs.proofs.ScalarPoints.{bit_does, number_does}
 use Rattle.number_runs.specs.Knowledge.{KnowsNumbers}
+use Rattle.number_runs.specs.Initial.{are_values, values_in, values_of}
 use Rattle.number_runs.specs.Narrow.{has_precision, is_bit, is_narrow, is_narrow_leaf, is_narrow_of, is_narrow_type}
 use Rattle.number_runs.specs.Narrow.{is_length, is_narrow_if, is_number_type, is_text_type, narrow_type, type_if}
 use Rattle.number_runs.specs.Narrow.{type_in}
@@ -33,10 +34,9 @@ use Rattle.number_runs.proofs.Variables.{automatic_is, part_is}
 
 leaf_is :
     (t : Y.LeafType) (bs : List Y.Bounds) (initial : List T.InitialItem) → is_narrow_leaf t bs initial ≡ true →
-    ((λ (l : Y.Leaf). l) (record { type = t; bounds = bs; initial = initial }) ≡ scalar_leaf t [])
-    × (is_narrow_type t ≡ true)
-leaf_is t [] [] h = (refl, h)
-leaf_is t [] (i ∷ is) h = absurd (cc h)
+    ((λ (l : Y.Leaf). l) (record { type = t; bounds = bs; initial = initial }) ≡ scalar_leaf t initial)
+    × ((is_narrow_type t ≡ true) × (are_values t initial ≡ true))
+leaf_is t [] initial h = (refl, and_parts (is_narrow_type t) (are_values t initial) h)
 leaf_is t (b ∷ bs) initial h = absurd (cc h)
 
 abbrev declared_by :
@@ -46,7 +46,8 @@ declared_by c ms ls r es = record { class = c; members = ms; leaves = ls; refer 
 declared_is :
     (c : Y.StorageClass) (ms : List Y.Member) (ls : List Y.Leaf) (r : Option Y.ReferMember) (es : List Y.Evaluation) →
     is_narrow_of c ms ls r es ≡ true →
-    (declared_by c ms ls r es ≡ scalar_declared (type_in ls) []) × (is_narrow_type (type_in ls) ≡ true)
+    (declared_by c ms ls r es ≡ scalar_declared (type_in ls) (values_in ls))
+    × ((is_narrow_type (type_in ls) ≡ true) × (are_values (type_in ls) (values_in ls) ≡ true))
 declared_is Y.AutomaticClass (m ∷ []) (l ∷ []) None [] h =
     let last = is_narrow_leaf l.type l.bounds l.initial in
     let a = and_parts (m.depth == 0) ((m.dimensions == 0) && last) h in
@@ -70,11 +71,14 @@ declared_is Y.StaticClass ms ls r es h = absurd (cc h)
 declared_is Y.BasedClass ms ls r es h = absurd (cc h)
 declared_is Y.ControlledClass ms ls r es h = absurd (cc h)
 
-pub narrow_is : (d : Y.DeclaredVariable) → is_narrow d ≡ true → d ≡ scalar_declared (narrow_type d) []
+pub narrow_is : (d : Y.DeclaredVariable) → is_narrow d ≡ true → d ≡ scalar_declared (narrow_type d) (values_of d)
 narrow_is d h = (declared_is d.class d.members d.leaves d.refer d.evaluations h).0
 
 pub type_is_narrow : (d : Y.DeclaredVariable) → is_narrow d ≡ true → is_narrow_type (narrow_type d) ≡ true
-type_is_narrow d h = (declared_is d.class d.members d.leaves d.refer d.evaluations h).1
+type_is_narrow d h = (declared_is d.class d.members d.leaves d.refer d.evaluations h).1.0
+
+pub narrow_values : (d : Y.DeclaredVariable) → is_narrow d ≡ true → are_values (narrow_type d) (values_of d) ≡ true
+narrow_values d h = (declared_is d.class d.members d.leaves d.refer d.evaluations h).1.1
 
 -- of a constant length
 pub record IsLength (size : Y.Extent) : Type 0 where

@@ -21,6 +21,7 @@ use Rattle.run_steps.specs.Items.{Linked}
 use Rattle.run_steps.specs.Reach.{cost}
 use Rattle.run_steps.proofs.Jumps.{back_of}
 use Rattle.program_runs.specs.Statements.{Block, DoesWith, HasAct, IsBegun, set_aside, size_with}
+use Rattle.condition_codes.specs.Codes.{HasCode}
 use Rattle.expression_runs.specs.Assignments.{setting_around}
 use Rattle.expression_runs.specs.Values.{Setting}
 use Rattle.expression_runs.specs.Variables.{IsNumber, Spot}
@@ -252,9 +253,9 @@ pub puts_known :
     ((x : Spot) → is_known s x ≡ true → IsNumber k x) →
     (s.elements ≡ true → (x : Spot) → is_array_known s x ≡ true → IsArray k x (bounds_known s x)) →
     (s.narrows ≡ true → (x : Spot) → is_narrow_known s x ≡ true → IsScalar k x (type_known s x)) →
-    ((x : Spot) → is_received s x ≡ true → IsParameter k x) → (s.texts ≡ true → KnowsConstants k) → KnowsLists k →
-    KnowsPuts s k most
-puts_known s k most b u variables arrays narrows parameters constants lists =
+    ((x : Spot) → is_received s x ≡ true → IsParameter k x) → (s.codes ≡ true → HasCode k) →
+    (s.texts ≡ true → KnowsConstants k) → KnowsLists k → KnowsPuts s k most
+puts_known s k most b u variables arrays narrows parameters codes constants lists =
     let few = u.few in
     record {
       numbers = λ words may place labels line.
@@ -287,6 +288,7 @@ puts_known s k most b u variables arrays narrows parameters constants lists =
             narrows = λ may x is. narrow_placed k place x (type_known s x) (narrows may x is);
             parameters = λ x is. parameter_placed k place x (parameters x is);
             located = λ may. absurd (cc may);
+            codes = codes;
             functions = λ level n is. absurd (cc is);
             texts = λ may.
                 texts_end (without_calls s) h (unraised_placed k place most u)

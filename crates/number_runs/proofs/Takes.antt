@@ -319,7 +319,7 @@ mutual
   number_taken s (Y.UpperBound r n) t h fits = absurd (cc h)
   number_taken s (Y.ElementsOf r n) t h fits = absurd (cc h)
   number_taken s (Y.AllocationsOf v) t h fits = absurd (cc h)
-  number_taken s Y.OnCode t h fits = absurd (cc h)
+  number_taken s Y.OnCode t h fits = sets_none t
 
   pub call_taken :
       (s : Scope) (c : Y.Call) (t : Taken) → is_number s (Y.NumberFrom c) ≡ true → Fits t (call_needs c) →
@@ -337,14 +337,14 @@ mutual
   arguments_taken s Y.NoArgument t h fits = sets_none t
   arguments_taken s (Y.ArgumentThen first rest) t h fits =
       let a = and_parts (is_argument s first) (are_arguments s rest) h in
-      sets_either (max (argument_needs first) 1) (arguments_need rest) (argument_sets first) (arguments_set rest) t
+      sets_either (argument_needs first) (arguments_need rest) (argument_sets first) (arguments_set rest) t
       (argument_takes t first) (arguments_take t rest) (argument_taken s first t a.0 (omega (arith, fits)))
       (arguments_taken s rest t a.1 (omega (arith, fits)))
 
   -- a value waits on its way into the list
   pub argument_taken :
-      (s : Scope) (x : Y.Argument) (t : Taken) → is_argument s x ≡ true → Fits t (max (argument_needs x) 1) →
-      Sets (max (argument_needs x) 1) (argument_sets x) t (argument_takes t x)
+      (s : Scope) (x : Y.Argument) (t : Taken) → is_argument s x ≡ true → Fits t (argument_needs x) →
+      Sets (argument_needs x) (argument_sets x) t (argument_takes t x)
   argument_taken s (Y.ByCopy type (Y.StoredNumber precision x)) t h fits =
       let a = and_parts (is_fixed type) ((precision == 31) && is_number s x) h in
       let b = and_parts (precision == 31) (is_number s x) a.1 in
@@ -354,7 +354,7 @@ mutual
   argument_taken s (Y.ByCopy type (Y.StoredBit x)) t h fits = absurd (cc h)
   argument_taken s (Y.ByCopy type (Y.StoredPointer x)) t h fits = absurd (cc h)
   argument_taken s (Y.ByCopy type (Y.StoredOffset x)) t h fits = absurd (cc h)
-  argument_taken s (Y.ByReference r) t h fits = absurd (cc h)
+  argument_taken s (Y.ByReference r) t h fits = scalar_takes s r t (or_cases (is_variable s r) (is_given s r) h)
   argument_taken s (Y.ByOffsetInParameter p parameter) t h fits = absurd (cc h)
   argument_taken s (Y.ByOffsetInAutomatic p) t h fits = absurd (cc h)
 

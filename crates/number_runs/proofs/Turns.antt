@@ -26,7 +26,8 @@ use Rattle.number_runs.specs.Knowledge.{AreStandingWith, HasFrame, IsHome, IsRea
 use Rattle.number_runs.specs.Knowledge.{StandingWith, KnowsAroundTexts, KnowsCalls, KnowsRaises, KnowsPuts}
 use Rattle.number_runs.specs.Numbers.{Scope, bounds_known, type_known, without_located}
 use Rattle.number_runs.proofs.Narrow.{narrow_told}
-use Rattle.number_runs.proofs.Received.{parameter_told, stored_untold}
+use Rattle.list_calls.proofs.ParametersPassed.{parameter_told}
+use Rattle.number_runs.proofs.Received.{passable_told, stored_untold}
 use Rattle.number_runs.proofs.Waiting.{waiting_without, waiting_unlocated}
 
 -- ---- words in which nothing waits
@@ -77,10 +78,11 @@ home_told φ φs waits b h =
 
 given_told :
     {s : Scope} {k : Block} {φ : Layer} {φs : List Layer} {own : List Label} {most left' : ℕ}
-    (waits : ℕ → Option ℕ) → KnowsGivenCalls s k φ φs own most left' →
+    (waits : ℕ → Option ℕ) → k.first.control.layers ≡ φ ∷ φs → KnowsGivenCalls s k φ φs own most left' →
     KnowsGivenCalls s (telling waits φ φs k) (with_waits waits φ) φs own most left'
-given_told {k = k} {φ = φ} {φs = φs} waits g =
+given_told {k = k} {φ = φ} {φs = φs} waits newest g =
     record {
+      passable = λ x is. passable_told k φ φs waits newest x (g.passable x is);
       functions = λ words waits' labels line level n need ways some stored.
           g.functions words waits' labels line level n need ways some (stored_untold waits φ φs k.first ways stored);
       procedures = λ words waits' labels level n line index need ways some stored.
@@ -112,6 +114,7 @@ ready_told {s} {k = k} r c none waits behind free =
       arrays = λ may x is. array_told k l.layer l.others waits l.newest x (bounds_known s x) (r.arrays may x is);
       narrows = λ may x is. narrow_told k l.layer l.others waits l.newest x (type_known s x) (r.narrows may x is);
       parameters = λ x is. parameter_told k l.layer l.others waits l.newest x (r.parameters x is);
+      codes = r.codes;
       calls = l.calls waits;
       based = λ may. absurd (cc (sym none ∙ may));
       jumps = l.jumps waits;
@@ -127,7 +130,7 @@ ready_told {s} {k = k} r c none waits behind free =
         free = free;
         raises = l.raises;
         calls = l.calls;
-        given = λ may. given_told waits (l.given may);
+        given = λ may. given_told waits l.newest (l.given may);
         jumps = l.jumps;
         texts = l.texts;
         signals = l.signals;
@@ -172,7 +175,7 @@ around_unlocated h =
 given_unlocated :
     {s : Scope} {k : Block} {layer : Layer} {others : List Layer} {own : List Label} {most left' : ℕ} →
     KnowsGivenCalls s k layer others own most left' → KnowsGivenCalls (without_located s) k layer others own most left'
-given_unlocated h = record { functions = h.functions; procedures = h.procedures }
+given_unlocated h = record { passable = h.passable; functions = h.functions; procedures = h.procedures }
 
 puts_unlocated : {s : Scope} {k : Block} {most : ℕ} → KnowsPuts s k most → KnowsPuts (without_located s) k most
 puts_unlocated h = record { numbers = h.numbers; error = h.error; lists = h.lists }
@@ -198,6 +201,7 @@ ready_unlocated r =
       arrays = r.arrays;
       narrows = r.narrows;
       parameters = r.parameters;
+      codes = r.codes;
       calls = calls_unlocated r.calls;
       based = λ may. absurd (cc may);
       jumps = r.jumps;

@@ -4,6 +4,7 @@ use Rattle.std.proofs.Common.{inr, length, true, false, refl, sym, ap, ◌∙◌
 use Rattle.std.specs.Prelude.{◌==◌, ◌%◌, Bool, if◌then◌else◌, is_some, min, slice_get}
 use Rattle.std.proofs.lemmas.Bool.{and_parts, le-leb}
 use Rattle.rv_meaning.specs.declared.instr.Instr.{Instr}
+use Rattle.pli_language.specs.Tree as T
 use Rattle.pli_typing.specs.TypedTree as Y
 use Rattle.pli_meaning.specs.Contents.{footprint_of}
 use Rattle.pli_meaning.specs.DeclaredShapes.{declared_variable, variables_of_block}
@@ -22,20 +23,23 @@ use Rattle.block_runs.specs.Machines.{HasParts}
 use Rattle.program_runs.specs.Calls.{Callee, begun_at, block_at}
 use Rattle.program_runs.specs.Procedures.{layer_for}
 use Rattle.program_runs.specs.Statements.{Block, IsAmong, IsBegun}
-use Rattle.program_runs.specs.Variables.{Declared, IsDeclared, generation_for}
+use Rattle.program_runs.specs.Initial.{Begins, MayBeMade}
+use Rattle.program_runs.specs.Variables.{Declared, generation_for}
 use Rattle.expression_runs.specs.Variables.{IsNumber, Spot, number_declared, variable_of}
-use Rattle.variable_runs.specs.Known.{IsKnown}
-use Rattle.variable_runs.specs.Lists.{Among, AreAll, AreDeclared, AreListed, AreThose, HaveWords, all_made}
+use Rattle.variable_runs.specs.Known.{IsKnown, IsOwn}
+use Rattle.variable_runs.specs.Lists.{AllMayBegin, Among, AreAllBegun, AreListed, AreThose, HaveWords, all_made}
 use Rattle.variable_runs.specs.Lists.{behind_made, layer_after, layer_behind, made_code}
-use Rattle.variable_runs.proofs.ListsAmong.{all_among}
+use Rattle.variable_runs.proofs.ListsAmong.{begun_among}
 use Rattle.function_runs.specs.Functions.{function_block}
-use Rattle.variable_runs.proofs.Known.{known_number, known_own}
+use Rattle.variable_runs.proofs.Known.{known_begun, known_number}
 use Rattle.variable_runs.proofs.Lists.{next_layers}
 use Rattle.element_runs.specs.Arrays.{IsArray}
+use Rattle.number_runs.specs.Initial.{values_of}
 use Rattle.number_runs.specs.Arrays.{array_bounds, bounds_if, is_array, is_array_if}
 use Rattle.scalar_runs.specs.Scalars.{IsScalar}
 use Rattle.number_runs.specs.Narrow.{is_narrow, is_narrow_if, narrow_type, type_if}
-use Rattle.number_runs.specs.Numbers.{is_plain_if}
+use Rattle.number_runs.specs.Numbers.{is_plain, is_plain_if}
+use Rattle.number_runs.specs.Variables.{EachBegins}
 use Rattle.number_runs.specs.Variables.{AreTabled, HasWords, HaveRoom, IsOwnArray, IsOwnNarrow, IsOwnWord, IsTabled}
 use Rattle.number_runs.specs.Variables.{are_plain, bytes_of, is_declared, own_bounds, own_type, variable_bytes}
 use Rattle.number_runs.specs.Variables.{words_from, words_in}
@@ -50,10 +54,11 @@ word_made e place index d = record { index = index; declared = d; number = table
 -- ---- where they are made
 
 pub one_declared :
-    (w : Surroundings) (p : Point) (φ : Layer) (φs : List Layer) (e : Environment) (place index more : ℕ)
-    (d : Y.DeclaredVariable) → is_declared d ≡ true → IsTabled e p.places.signatures d →
-    HaveRoom w p φ φs place (variable_bytes d + more) → IsDeclared w p (word_made e place index d) φ φs
-one_declared w p φ φs e place index more d is table h =
+    (w : Surroundings) (code : List Instr) (p : Point) (φ : Layer) (φs : List Layer) (e : Environment)
+    (place index more : ℕ) (d : Y.DeclaredVariable) → is_declared d ≡ true → IsTabled e p.places.signatures d →
+    Begins p.places.constants code w.links.data' d → HaveRoom w p φ φs place (variable_bytes d + more) →
+    MayBeMade w code p (word_made e place index d) φ φs
+one_declared w code p φ φs e place index more d is table begins h =
     let here = h.here in
     let even = h.even in
     let counted = h.counted in
@@ -76,8 +81,7 @@ one_declared w p φ φs e place index more d is table h =
       low = h.low;
       shape = table.shape;
       number = table.small;
-      initial = m.initial;
-      none = m.none;
+      initial = begins;
       plain = m.plain;
       fixed = m.fixed;
       values = m.values;
@@ -125,16 +129,17 @@ next_room w p φ φs e place index more d is h =
     }
 
 pub words_declared :
-    (w : Surroundings) (p : Point) (φ : Layer) (φs : List Layer) (e : Environment) (place index : ℕ)
-    (ds : List Y.DeclaredVariable) → are_plain ds ≡ true → AreTabled e p.places.signatures ds →
-    HaveRoom w p φ φs place (bytes_of ds) → AreDeclared w p φ φs (words_from e place index ds)
-words_declared w p φ φs e place index [] is tabled h = tt
-words_declared w p φ φs e place index (d ∷ ds) is tabled h =
+    (w : Surroundings) (code : List Instr) (p : Point) (φ : Layer) (φs : List Layer) (e : Environment)
+    (place index : ℕ) (ds : List Y.DeclaredVariable) → are_plain ds ≡ true → AreTabled e p.places.signatures ds →
+    EachBegins p.places.constants code w.links.data' ds → HaveRoom w p φ φs place (bytes_of ds) →
+    AllMayBegin w code p φ φs (words_from e place index ds)
+words_declared w code p φ φs e place index [] is tabled begin h = tt
+words_declared w code p φ φs e place index (d ∷ ds) is tabled begin h =
     let a = and_parts (is_declared d) (are_plain ds) is in (
-      inl (one_declared w p φ φs e place index (bytes_of ds) d a.0 tabled.0 h),
-      words_declared w (behind_made w.parts φ (word_made e place index d) p)
+      inl (one_declared w code p φ φs e place index (bytes_of ds) d a.0 tabled.0 begin.0 h),
+      words_declared w code (behind_made w.parts φ (word_made e place index d) p)
           (layer_behind w.parts (p.state.serials + 1) φ (word_made e place index d)) φs e (place + variable_bytes d)
-          (index + 1) ds a.1 tabled.1 (next_room w p φ φs e place index (bytes_of ds) d a.0 h),
+          (index + 1) ds a.1 tabled.1 begin.1 (next_room w p φ φs e place index (bytes_of ds) d a.0 h),
     )
 
 -- where they have been made, there is room for what is left
@@ -304,11 +309,18 @@ slice_less (y ∷ ys) zero x e = omega arith
 slice_less (y ∷ ys) (suc i) x e = let n = slice_less ys i x e in omega (arith, n)
 
 pub record Found (o : Option Y.DeclaredVariable) : Type 0 where
-  pub is : o ≡ Some (number_declared [])
+  pub initial : List T.InitialItem
+  pub is : o ≡ Some (number_declared initial)
+  pub plain : is_plain (number_declared initial) ≡ true
 
 pub found : (o : Option Y.DeclaredVariable) → is_plain_if o ≡ true → Found o
 found None h = absurd (cc h)
-found (Some d) h = record { is = ap (λ d'. Some d') (plain_is d h) }
+found (Some d) h =
+    record {
+      initial = values_of d;
+      is = ap (λ d'. Some d') (plain_is d h);
+      plain = subst (λ d'. is_plain d' ≡ true) (plain_is d h) h;
+    }
 
 pub record FoundArray (o : Option Y.DeclaredVariable) : Type 0 where
   pub declared : Y.DeclaredVariable
@@ -333,9 +345,9 @@ found_narrow (Some d) h = record { declared = d; is = refl; narrow = h; type = r
 -- ---- the laws
 
 pub all_words :
-    (w : Surroundings) (c : Callee) (p : Point) (numbers : ℕ → ℕ) → HasWords w c p numbers →
-    AreAll w c p numbers (words_in c.environment)
-all_words w c p numbers h =
+    (w : Surroundings) (code : List Instr) (c : Callee) (p : Point) (numbers : ℕ → ℕ) → HasWords w code c p numbers →
+    AreAllBegun w code c p numbers (words_in c.environment)
+all_words w code c p numbers h =
     let e = c.environment in
     let ds = variables_of_block e.program e.block in
     let first = fixed_size e.level 0 in
@@ -351,7 +363,7 @@ all_words w c p numbers h =
           (words_those e first 0 ds);
       listed = words_listed e first 0 ds h.plain;
       code =
-          h.code
+          h.coded
           ∙ words_code e c.procedure.head.line first 0 ds h.plain
           (λ i less.
           ap (λ n. variable_place e.parts n ds (0 + i)) start
@@ -361,8 +373,8 @@ all_words w c p numbers h =
       parts = h.parts;
       few = few_words e first 0 ds w.serials h.few;
       declared =
-          words_declared w (begun_at w c p numbers) (layer_for w p numbers c.procedure c.calling) p.control.layers e
-          first 0 ds h.plain h.tabled h.room;
+          words_declared w code (begun_at w c p numbers) (layer_for w p numbers c.procedure c.calling) p.control.layers
+          e first 0 ds h.plain h.tabled h.begin h.room;
     }
   where
     few_words :
@@ -387,24 +399,29 @@ none_worded e serials place index (d ∷ ds) h =
 
 pub words_anywhere :
     (k : Block) (c : Callee) (p : Point) (numbers : ℕ → ℕ) → IsBegun k → IsAmong k numbers p →
-    HasWords k.call.surroundings c k.first numbers →
-    AreAll k.call.surroundings c p numbers (words_in c.environment)
+    HasWords k.call.surroundings k.call.code c k.first numbers →
+    AreAllBegun k.call.surroundings k.call.code c p numbers (words_in c.environment)
 words_anywhere k c p numbers b o h =
-    all_among k c (words_in c.environment) p numbers numbers b o
+    begun_among k c (words_in c.environment) p numbers numbers b o
     (none_worded c.environment p.state.serials (fixed_size c.environment.level 0) 0
     (variables_of_block c.environment.program c.environment.block) h.plain)
-    (all_words k.call.surroundings c k.first numbers h)
+    (all_words k.call.surroundings k.call.code c k.first numbers h)
 
--- each of them is known in the block
-own_known :
-    (w : Surroundings) (code : List Instr) (c : Callee) (p q : Point) (numbers : ℕ → ℕ) (x : Spot)
-    (d : Y.DeclaredVariable) → HasParts w.parts →
-    HasWords w c q numbers × AreAll w c p numbers (words_in c.environment) →
+-- each of them stands where code looks for it
+pub own_place :
+    (w : Surroundings) (code : List Instr) (c : Callee) (q : Point) (numbers : ℕ → ℕ) (x : Spot)
+    (d : Y.DeclaredVariable) → HasWords w code c q numbers →
     (x.block ≡ c.environment.block) × (x.level ≡ c.environment.level) →
-    declared_variable c.environment.program (variable_of x) ≡ Some d → IsBegun (block_at w code c p numbers) →
-    IsKnown (block_at w code c p numbers) x d
-own_known w code c p q numbers x d parts known own is b =
-    let h = known.0 in
+    declared_variable c.environment.program (variable_of x) ≡ Some d →
+    IsOwn c
+    (word_made c.environment
+    (fixed_size c.environment.level 0 + bytes_before (variables_of_block c.environment.program c.environment.block)
+    x.index) (0 + x.index) d) x
+    × Among
+    (word_made c.environment
+    (fixed_size c.environment.level 0 + bytes_before (variables_of_block c.environment.program c.environment.block)
+    x.index) (0 + x.index) d) (words_in c.environment)
+own_place w code c q numbers x d h own is =
     let e = c.environment in
     let ds = variables_of_block e.program e.block in
     let first = fixed_size e.level 0 in
@@ -412,26 +429,40 @@ own_known w code c p q numbers x d parts known own is b =
     let less = slice_less ds x.index d there in
     let at = places_are e.parts first ds h.plain h.room.counted in
     let start : fixed_size e.level (length (parameters_of_block e.program e.block)) ≡ first =
-    ap (λ (ns : List ℕ). fixed_size e.level (length ns)) h.bare in
-    known_own w code c p numbers (words_in e) (word_made e (first + bytes_before ds x.index) (0 + x.index) d) x parts
-    known.1 (words_among e first 0 x.index ds d there)
-    (record {
-      declared = is;
-      index = omega arith;
-      level = own.1 ∙ h.level;
-      own = h.level;
-      place =
-          ap (λ n. automatic_place e.parts e.program n x.level x.index) own.0
-          ∙ ap (λ n. automatic_place e.parts e.program e.block n x.index) own.1
-          ∙ ap (λ n. variable_place e.parts n ds x.index) start ∙ at x.index less;
-    })
-    b
+    ap (λ (ns : List ℕ). fixed_size e.level (length ns)) h.bare in (
+      record {
+        declared = is;
+        index = omega arith;
+        level = own.1 ∙ h.level;
+        own = h.level;
+        place =
+            ap (λ n. automatic_place e.parts e.program n x.level x.index) own.0
+            ∙ ap (λ n. automatic_place e.parts e.program e.block n x.index) own.1
+            ∙ ap (λ n. variable_place e.parts n ds x.index) start ∙ at x.index less;
+      },
+      words_among e first 0 x.index ds d there,
+    )
+
+-- each of them is known in the block
+own_known :
+    (w : Surroundings) (code : List Instr) (c : Callee) (p q : Point) (numbers : ℕ → ℕ) (x : Spot)
+    (d : Y.DeclaredVariable) → HasParts w.parts →
+    HasWords w code c q numbers × AreAllBegun w code c p numbers (words_in c.environment) →
+    (x.block ≡ c.environment.block) × (x.level ≡ c.environment.level) →
+    declared_variable c.environment.program (variable_of x) ≡ Some d → IsBegun (block_at w code c p numbers) →
+    IsKnown (block_at w code c p numbers) x d
+own_known w code c p q numbers x d parts known own is b =
+    let e = c.environment in
+    let ds = variables_of_block e.program e.block in
+    let o = own_place w code c q numbers x d known.0 own is in
+    known_begun w code c p numbers (words_in e)
+    (word_made e (fixed_size e.level 0 + bytes_before ds x.index) (0 + x.index) d) x parts known.1 o.1 o.0 b
 
 -- a function's block has the frame that a procedure's would have
 function_known :
     (w : Surroundings) (code : List Instr) (c : Callee) (p q : Point) (numbers : ℕ → ℕ) (x : Spot)
     (d : Y.DeclaredVariable) → HasParts w.parts →
-    HasWords w c q numbers × AreAll w c p numbers (words_in c.environment) →
+    HasWords w code c q numbers × AreAllBegun w code c p numbers (words_in c.environment) →
     (x.block ≡ c.environment.block) × (x.level ≡ c.environment.level) →
     declared_variable c.environment.program (variable_of x) ≡ Some d → IsBegun (function_block w code c p numbers) →
     IsKnown (function_block w code c p numbers) x d
@@ -460,7 +491,7 @@ pub array_known :
 array_known k x o f known =
     subst (λ b. IsArray k x b) (sym f.bounds)
     (record {
-      initial = [];
+      initial = values_of f.declared;
       known = subst (λ d. IsKnown k x d) (array_is f.declared f.array) known;
       bounds = bounds_are f.declared f.array;
     })
@@ -471,21 +502,24 @@ pub narrow_known :
     IsScalar k x (type_if o)
 narrow_known k x o f known =
     subst (λ t. IsScalar k x t) (sym f.type)
-    (record { initial = []; known = subst (λ d. IsKnown k x d) (narrow_is f.declared f.narrow) known })
+    (record {
+      initial = values_of f.declared;
+      known = subst (λ d. IsKnown k x d) (narrow_is f.declared f.narrow) known;
+    })
 
 pub own_word :
     (w : Surroundings) (code : List Instr) (c : Callee) (p q : Point) (numbers : ℕ → ℕ) (x : Spot) →
-    HasParts w.parts → HasWords w c q numbers × AreAll w c p numbers (words_in c.environment) → IsOwnWord c x →
-    IsBegun (block_at w code c p numbers) → IsNumber (block_at w code c p numbers) x
+    HasParts w.parts → HasWords w code c q numbers × AreAllBegun w code c p numbers (words_in c.environment) →
+    IsOwnWord c x → IsBegun (block_at w code c p numbers) → IsNumber (block_at w code c p numbers) x
 own_word w code c p q numbers x parts known own b =
     let there = found (declared_variable c.environment.program (variable_of x)) own.plain in
-    known_number (block_at w code c p numbers) x []
-    (own_known w code c p q numbers x (number_declared []) parts known (own.block, own.level) there.is b)
+    known_number (block_at w code c p numbers) x there.initial
+    (own_known w code c p q numbers x (number_declared there.initial) parts known (own.block, own.level) there.is b)
 
 pub own_array :
     (w : Surroundings) (code : List Instr) (c : Callee) (p q : Point) (numbers : ℕ → ℕ) (x : Spot) →
-    HasParts w.parts → HasWords w c q numbers × AreAll w c p numbers (words_in c.environment) → IsOwnArray c x →
-    IsBegun (block_at w code c p numbers) → IsArray (block_at w code c p numbers) x (own_bounds c x)
+    HasParts w.parts → HasWords w code c q numbers × AreAllBegun w code c p numbers (words_in c.environment) →
+    IsOwnArray c x → IsBegun (block_at w code c p numbers) → IsArray (block_at w code c p numbers) x (own_bounds c x)
 own_array w code c p q numbers x parts known own b =
     let o = declared_variable c.environment.program (variable_of x) in
     let there = found_array o own.array in
@@ -494,16 +528,18 @@ own_array w code c p q numbers x parts known own b =
 
 pub function_word :
     (w : Surroundings) (code : List Instr) (c : Callee) (p q : Point) (numbers : ℕ → ℕ) (x : Spot) →
-    HasParts w.parts → HasWords w c q numbers × AreAll w c p numbers (words_in c.environment) → IsOwnWord c x →
-    IsBegun (function_block w code c p numbers) → IsNumber (function_block w code c p numbers) x
+    HasParts w.parts → HasWords w code c q numbers × AreAllBegun w code c p numbers (words_in c.environment) →
+    IsOwnWord c x → IsBegun (function_block w code c p numbers) → IsNumber (function_block w code c p numbers) x
 function_word w code c p q numbers x parts known own b =
     let there = found (declared_variable c.environment.program (variable_of x)) own.plain in
-    known_number (function_block w code c p numbers) x []
-    (function_known w code c p q numbers x (number_declared []) parts known (own.block, own.level) there.is b)
+    known_number (function_block w code c p numbers) x there.initial
+    (function_known w code c p q numbers x (number_declared there.initial) parts known (own.block, own.level) there.is
+    b)
 
 pub function_array :
     (w : Surroundings) (code : List Instr) (c : Callee) (p q : Point) (numbers : ℕ → ℕ) (x : Spot) →
-    HasParts w.parts → HasWords w c q numbers × AreAll w c p numbers (words_in c.environment) → IsOwnArray c x →
+    HasParts w.parts → HasWords w code c q numbers × AreAllBegun w code c p numbers (words_in c.environment) →
+    IsOwnArray c x →
     IsBegun (function_block w code c p numbers) → IsArray (function_block w code c p numbers) x (own_bounds c x)
 function_array w code c p q numbers x parts known own b =
     let o = declared_variable c.environment.program (variable_of x) in
@@ -513,8 +549,8 @@ function_array w code c p q numbers x parts known own b =
 
 pub own_narrow :
     (w : Surroundings) (code : List Instr) (c : Callee) (p q : Point) (numbers : ℕ → ℕ) (x : Spot) →
-    HasParts w.parts → HasWords w c q numbers × AreAll w c p numbers (words_in c.environment) → IsOwnNarrow c x →
-    IsBegun (block_at w code c p numbers) → IsScalar (block_at w code c p numbers) x (own_type c x)
+    HasParts w.parts → HasWords w code c q numbers × AreAllBegun w code c p numbers (words_in c.environment) →
+    IsOwnNarrow c x → IsBegun (block_at w code c p numbers) → IsScalar (block_at w code c p numbers) x (own_type c x)
 own_narrow w code c p q numbers x parts known own b =
     let o = declared_variable c.environment.program (variable_of x) in
     let there = found_narrow o own.narrow in
@@ -523,7 +559,8 @@ own_narrow w code c p q numbers x parts known own b =
 
 pub function_narrow :
     (w : Surroundings) (code : List Instr) (c : Callee) (p q : Point) (numbers : ℕ → ℕ) (x : Spot) →
-    HasParts w.parts → HasWords w c q numbers × AreAll w c p numbers (words_in c.environment) → IsOwnNarrow c x →
+    HasParts w.parts → HasWords w code c q numbers × AreAllBegun w code c p numbers (words_in c.environment) →
+    IsOwnNarrow c x →
     IsBegun (function_block w code c p numbers) → IsScalar (function_block w code c p numbers) x (own_type c x)
 function_narrow w code c p q numbers x parts known own b =
     let o = declared_variable c.environment.program (variable_of x) in

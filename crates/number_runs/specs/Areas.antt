@@ -17,14 +17,14 @@ use Rattle.program_runs.specs.Statements.{IsBegun}
 use Rattle.program_runs.specs.Variables.{Declared}
 use Rattle.expression_runs.specs.Variables.{IsNumber, Spot, variable_of}
 use Rattle.variable_runs.specs.Known.{IsKnown}
-use Rattle.variable_runs.specs.Lists.{AreAll, newest_all}
+use Rattle.variable_runs.specs.Lists.{AreAllBegun, newest_all}
 use Rattle.element_runs.specs.Arrays.{IsArray}
 use Rattle.scalar_runs.specs.Scalars.{IsScalar}
 use Rattle.area_runs.specs.Allocations.{HasArea}
 use Rattle.area_runs.specs.Based.{pointer_declared}
 use Rattle.number_runs.specs.Based.{is_area_if, is_based, is_pointer_if}
-use Rattle.number_runs.specs.Variables.{AreTabled, HaveRoom, IsOwnArray, IsOwnNarrow, IsOwnWord, are_any, own_bounds}
-use Rattle.number_runs.specs.Variables.{own_type}
+use Rattle.number_runs.specs.Variables.{AreTabled, EachBegins, HaveRoom, IsOwnArray, IsOwnNarrow, IsOwnWord, are_any}
+use Rattle.number_runs.specs.Variables.{own_bounds, own_type}
 
 -- what they take in its frame: an area as many bytes as its keeper needs, and what is BASED none
 abbrev pub held_bytes : MemoryParts → List Y.DeclaredVariable → ℕ
@@ -48,9 +48,9 @@ held_in e = held_from e (fixed_size e.level 0) 0 (variables_of_block e.program e
 
 -- ---- those of a procedure
 
-pub record HasAreas (w : Surroundings) (c : Callee) (p : Point) (numbers : ℕ → ℕ) : Type 0 where
+pub record HasAreas (w : Surroundings) (code : List Instr) (c : Callee) (p : Point) (numbers : ℕ → ℕ) : Type 0 where
   pub kind : c.procedure.head.kind ≡ Y.ProcedureBlock
-  pub code : c.procedure.variables ≡ variables_code c.environment c.procedure.head.line
+  pub coded : c.procedure.variables ≡ variables_code c.environment c.procedure.head.line
   pub block : c.environment.block ≡ c.procedure.head.number
   pub level : c.environment.level ≡ c.procedure.head.level
   pub program : c.around.program ≡ c.environment.program
@@ -62,6 +62,8 @@ pub record HasAreas (w : Surroundings) (c : Callee) (p : Point) (numbers : ℕ �
   pub few : length (variables_of_block c.environment.program c.environment.block) ≤ w.serials
   pub tabled :
       AreTabled c.environment p.places.signatures (variables_of_block c.environment.program c.environment.block)
+  pub begin :
+      EachBegins p.places.constants code w.links.data' (variables_of_block c.environment.program c.environment.block)
   pub room :
       HaveRoom w (begun_at w c p numbers) (layer_for w p numbers c.procedure c.calling) p.control.layers
       (fixed_size c.environment.level 0)
@@ -87,27 +89,27 @@ pub record IsOwnArea (c : Callee) (x : Spot) : Type 0 where
 pub record AreasMade : Type 0 where
   -- the procedure makes them, if they have room
   pub all :
-      (w : Surroundings) (c : Callee) (p : Point) (numbers : ℕ → ℕ) → HasAreas w c p numbers →
-      AreAll w c p numbers (held_in c.environment)
+      (w : Surroundings) (code : List Instr) (c : Callee) (p : Point) (numbers : ℕ → ℕ) → HasAreas w code c p numbers →
+      AreAllBegun w code c p numbers (held_in c.environment)
   -- each pointer stands for what is there, and the frame tells the name of each area
   pub pointer :
       (w : Surroundings) (code : List Instr) (c : Callee) (p : Point) (numbers : ℕ → ℕ) (x : Spot) →
-      HasParts w.parts → HasAreas w c p numbers → IsOwnPointer c x → IsBegun (block_at w code c p numbers) →
+      HasParts w.parts → HasAreas w code c p numbers → IsOwnPointer c x → IsBegun (block_at w code c p numbers) →
       IsKnown (block_at w code c p numbers) x pointer_declared
   pub area :
       (w : Surroundings) (code : List Instr) (c : Callee) (p : Point) (numbers : ℕ → ℕ) (x : Spot) →
-      HasParts w.parts → HasAreas w c p numbers → IsOwnArea c x → IsBegun (block_at w code c p numbers) →
+      HasParts w.parts → HasAreas w code c p numbers → IsOwnArea c x → IsBegun (block_at w code c p numbers) →
       HasArea (block_at w code c p numbers) x
   -- and the other ones are what they are without areas
   pub number :
       (w : Surroundings) (code : List Instr) (c : Callee) (p : Point) (numbers : ℕ → ℕ) (x : Spot) →
-      HasParts w.parts → HasAreas w c p numbers → IsOwnWord c x → IsBegun (block_at w code c p numbers) →
+      HasParts w.parts → HasAreas w code c p numbers → IsOwnWord c x → IsBegun (block_at w code c p numbers) →
       IsNumber (block_at w code c p numbers) x
   pub array :
       (w : Surroundings) (code : List Instr) (c : Callee) (p : Point) (numbers : ℕ → ℕ) (x : Spot) →
-      HasParts w.parts → HasAreas w c p numbers → IsOwnArray c x → IsBegun (block_at w code c p numbers) →
+      HasParts w.parts → HasAreas w code c p numbers → IsOwnArray c x → IsBegun (block_at w code c p numbers) →
       IsArray (block_at w code c p numbers) x (own_bounds c x)
   pub narrow :
       (w : Surroundings) (code : List Instr) (c : Callee) (p : Point) (numbers : ℕ → ℕ) (x : Spot) →
-      HasParts w.parts → HasAreas w c p numbers → IsOwnNarrow c x → IsBegun (block_at w code c p numbers) →
+      HasParts w.parts → HasAreas w code c p numbers → IsOwnNarrow c x → IsBegun (block_at w code c p numbers) →
       IsScalar (block_at w code c p numbers) x (own_type c x)

@@ -5,6 +5,7 @@ use Rattle.pli_typing.specs.Signatures.{Bounds}
 use Rattle.pli_typing.specs.TypedTree as Y
 use Rattle.pli_meaning.specs.DeclaredShapes.{bounds_of}
 use Rattle.pli_meaning.specs.Numbers.{is_of_precision}
+use Rattle.number_runs.specs.Initial.{are_values}
 
 -- constants of 31 bits and a sign, in order
 abbrev pub are_bounds : (lower upper : Y.Extent) → Bool
@@ -12,9 +13,10 @@ are_bounds (Y.ConstantExtent l) (Y.ConstantExtent u) =
     is_of_precision 31 l && (is_of_precision 31 u && int_le l u)
 are_bounds _ _ = false
 
--- one dimension of numbers, to which nothing is given
+-- one dimension of numbers
 abbrev pub is_row : Y.LeafType → List Y.Bounds → List T.InitialItem → Bool
-is_row (Y.FixedLeaf precision) (b ∷ []) [] = (precision == 31) && are_bounds b.lower b.upper
+is_row (Y.FixedLeaf precision) (b ∷ []) initial =
+    (precision == 31) && (are_bounds b.lower b.upper && are_values (Y.FixedLeaf precision) initial)
 is_row _ _ _ = false
 
 -- one of level 1 that is no structure
@@ -24,7 +26,7 @@ is_array_of Y.AutomaticClass (m ∷ []) (l ∷ []) None [] =
     (m.depth == 0) && ((m.dimensions == 1) && is_row l.type l.bounds l.initial)
 is_array_of _ _ _ _ _ = false
 
--- AUTOMATIC FIXED BINARY(31) with such bounds, without INITIAL
+-- AUTOMATIC FIXED BINARY(31) with such bounds
 abbrev pub is_array : Y.DeclaredVariable → Bool
 is_array d = is_array_of d.class d.members d.leaves d.refer d.evaluations
 

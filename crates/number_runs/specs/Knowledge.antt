@@ -25,6 +25,7 @@ use Rattle.run_steps.specs.DataNamed.{IsPlaced}
 use Rattle.run_steps.specs.Engine.{most_code}
 use Rattle.run_steps.specs.Items.{Linked}
 use Rattle.program_runs.specs.Statements.{Block, Does, DoesWith, IsBegun, IsOwn, set_aside, waiting}
+use Rattle.condition_codes.specs.Codes.{HasCode}
 use Rattle.expression_runs.specs.Assignments.{setting_around}
 use Rattle.expression_runs.specs.Laws as L
 use Rattle.expression_runs.specs.Raises.{Routines}
@@ -42,7 +43,8 @@ use Rattle.element_runs.specs.Arrays.{IsArray}
 use Rattle.element_runs.specs.Subscripts.{SubscriptComes}
 use Rattle.argument_runs.specs.Parameters.{IsParameter}
 use Rattle.list_calls.specs.Arguments.{EachGives, Way, arguments_of, setting_told}
-use Rattle.list_calls.specs.ListKnown.{AreStored}
+use Rattle.list_calls.specs.ListKnown.{AreStored, IsStored}
+use Rattle.list_calls.specs.Passed.{IsNamed}
 use Rattle.area_runs.specs.Allocations.{allocation}
 use Rattle.area_runs.specs.Based.{through}
 use Rattle.area_runs.specs.BasedAssignments as B
@@ -82,6 +84,13 @@ GiveBehind k words need waits φ φs ways =
     (words + argument_words * length ways) waits
     ways
 
+-- a variable of a block may be passed by reference: its frame tells its name, and it is stored
+pub record IsPassable (k : Block) (x : Spot) : Type 0 where
+  pub serial : ℕ
+  pub signature : ℕ
+  pub named : IsNamed k x serial signature
+  pub stored : IsStored k.first serial signature
+
 -- an ERROR by a service's status comes to what it means
 pub record KnowsErrors (k : Setting) : Type 0 where
   pub text : ErrorComes (List ℕ) k
@@ -108,13 +117,15 @@ pub record KnowsTexts (s : Scope) (k : Setting) : Type 0 where
   pub waits : (entries : List Entry) → KnowsWaiting s (over entries k)
 
 -- around lists of arguments, which stand in words of the newest layer behind those that are set aside: raises and calls
--- do what they mean whatever waits in these words, and so does a call with a list if each of its arguments does
+-- do what they mean whatever waits in these words, and so does a call with a list if each of its arguments does; each
+-- variable may be passed by reference
 pub record KnowsGiven (s : Scope) (k : Setting) : Type 0 where
   pub layer : Layer
   pub others : List Layer
   pub newest : k.block.first.control.layers ≡ layer ∷ others
   pub few : layer.words ≤ most_set
   pub free : IsFree layer.waits k.words
+  pub passable : (x : Spot) → is_known s x ≡ true → IsPassable k.block x
   pub overflow :
       s.overflows ≡ true → (words : ℕ) → words ≤ most_set → (waits : ℕ → Option ℕ) →
       OverflowComes (setting_told k words waits layer others)
@@ -155,6 +166,7 @@ pub record KnowsNumbers (s : Scope) (k : Setting) : Type 0 where
   pub located :
       s.locates ≡ true → (p n : Spot) → is_pointer_known s p ≡ true → is_based_known s n ≡ true →
       L.Does k 0 (Y.NumberIn (through p n))
+  pub codes : s.codes ≡ true → HasCode k.block
 
 -- so many words are left for lists behind those that are set aside
 abbrev pub HasLists : {s : Scope} → {k : Setting} → KnowsNumbers s k → (count : ℕ) → Type 0
@@ -267,10 +279,11 @@ pub record KnowsCalls (s : Scope) (k : Block) (own : List Label) (most left' : �
       DoesWith words k labels (call_statement level n line) index left'
 
 -- so do those with a list of arguments, whatever waits in the words of the newest layer that are set aside, if each of
--- its arguments does
+-- its arguments does; each variable may be passed by reference
 pub record KnowsGivenCalls (s : Scope) (k : Block) (layer : Layer) (others : List Layer) (own : List Label)
     (most left' : ℕ) : Type 0
   where
+    pub passable : (x : Spot) → is_known s x ≡ true → IsPassable k x
     pub functions :
         (words : ℕ) (waits : ℕ → Option ℕ) (labels : List Label) (line level n need : ℕ) (ways : List Way) →
         0 < length ways → AreStored k.first ways → Includes own labels → IsFree waits words →
@@ -388,6 +401,7 @@ pub record IsReady (s : Scope) (valued : Bool) (k : Block) (labels : List Label)
   pub arrays : s.elements ≡ true → (x : Spot) → is_array_known s x ≡ true → IsArray k x (bounds_known s x)
   pub narrows : s.narrows ≡ true → (x : Spot) → is_narrow_known s x ≡ true → IsScalar k x (type_known s x)
   pub parameters : (x : Spot) → is_received s x ≡ true → IsParameter k x
+  pub codes : s.codes ≡ true → HasCode k
   pub calls : KnowsCalls s k labels most left'
   pub based : s.locates ≡ true → KnowsBased s k labels most left'
   pub jumps : KnowsJumps s k labels left'

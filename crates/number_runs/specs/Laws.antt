@@ -9,6 +9,7 @@ use Rattle.pli_coding.specs.Environments.{Environment}
 use Rattle.pli_coding.specs.Registers.{held_registers}
 use Rattle.pli_coding.specs.Statements.{block_held, block_words}
 use Rattle.program_runs.specs.Statements.{AreMarked, Block, Does, EachDoes, IsBegun, waiting}
+use Rattle.condition_codes.specs.Codes.{HasCode}
 use Rattle.expression_runs.specs.Assignments.{setting_around}
 use Rattle.expression_runs.specs.Laws as L
 use Rattle.expression_runs.specs.Values.{Setting}
@@ -67,8 +68,8 @@ pub record BodiesDo : Type 0 where
       ((x : Spot) → is_known s x ≡ true → IsNumber k x) →
       (s.elements ≡ true → (x : Spot) → is_array_known s x ≡ true → IsArray k x (bounds_known s x)) →
       (s.narrows ≡ true → (x : Spot) → is_narrow_known s x ≡ true → IsScalar k x (type_known s x)) →
-      ((x : Spot) → is_received s x ≡ true → IsParameter k x) → (s.texts ≡ true → KnowsConstants k) → KnowsLists k →
-      KnowsPuts s k most
+      ((x : Spot) → is_received s x ≡ true → IsParameter k x) → (s.codes ≡ true → HasCode k) →
+      (s.texts ≡ true → KnowsConstants k) → KnowsLists k → KnowsPuts s k most
   -- and texts may wait, if functions are called above them
   pub texts :
       (s : Scope) (k : Block) (own : List Label) (most : ℕ) → IsUnraised k most → KnowsConstants k →

@@ -4,6 +4,7 @@ use Rattle.std.specs.Prelude.{ℕ, ◌==◌, ◌&&◌, Bool, false, true, List, 
 use Rattle.pli_language.specs.Tree as T
 use Rattle.pli_typing.specs.TypedTree as Y
 use Rattle.pli_meaning.specs.Texts.{most_text}
+use Rattle.number_runs.specs.Initial.{are_values}
 
 -- a length that a text may have
 abbrev pub is_length : Y.Extent → Bool
@@ -20,9 +21,8 @@ is_narrow_type (Y.FixedLeaf precision) = nat_lt 0 precision && nat_lt precision 
 is_narrow_type Y.BitLeaf = true
 is_narrow_type t = is_text_type t
 
--- to which nothing is given
 abbrev pub is_narrow_leaf : Y.LeafType → List Y.Bounds → List T.InitialItem → Bool
-is_narrow_leaf type [] [] = is_narrow_type type
+is_narrow_leaf type [] initial = is_narrow_type type && are_values type initial
 is_narrow_leaf _ _ _ = false
 
 -- one of level 1 that is no structure
@@ -32,7 +32,7 @@ is_narrow_of Y.AutomaticClass (m ∷ []) (l ∷ []) None [] =
     (m.depth == 0) && ((m.dimensions == 0) && is_narrow_leaf l.type l.bounds l.initial)
 is_narrow_of _ _ _ _ _ = false
 
--- AUTOMATIC, without INITIAL
+-- AUTOMATIC
 abbrev pub is_narrow : Y.DeclaredVariable → Bool
 is_narrow d = is_narrow_of d.class d.members d.leaves d.refer d.evaluations
 

@@ -14,6 +14,7 @@ use Rattle.pli_coding.specs.Frames.{parameters_of_block}
 use Rattle.expression_runs.specs.Variables.{Spot, variable_of}
 use Rattle.argument_runs.specs.Parameters.{parameter_of}
 use Rattle.area_runs.specs.Based.{based_of}
+use Rattle.number_runs.specs.Initial.{are_values}
 use Rattle.number_runs.specs.Arrays.{bounds_if, is_array_if}
 use Rattle.number_runs.specs.Narrow.{is_bit, is_narrow_if, is_number_type, is_text_type, type_if}
 use Rattle.number_runs.specs.Based.{is_area_if, is_based_class, is_based_if, is_pointer_if}
@@ -30,8 +31,7 @@ pub record Scope : Type 0 where
   pub receivers : List BlockPlace
   pub is_function : (level number : ℕ) → Bool
   pub is_procedure : (level number : ℕ) → Bool
-  -- whether calls may have arguments, each of which is copied, and the functions and the procedures with so many
-  -- parameters
+  -- whether calls may have arguments, and the functions and the procedures with so many parameters
   pub gives : Bool
   pub is_given_function : (count level number : ℕ) → Bool
   pub is_given_procedure : (count level number : ℕ) → Bool
@@ -57,6 +57,8 @@ pub record Scope : Type 0 where
   pub is_outer : ℕ → Label → Bool
   -- the conditions that they may signal
   pub signals : Condition → Bool
+  -- whether they may have ONCODE
+  pub codes : Bool
 
 -- ---- variables
 
@@ -73,12 +75,21 @@ abbrev pub has_none : {A : Type 0} → List A → Bool
 has_none [] = true
 has_none (x ∷ xs) = false
 
+-- to which nothing is given
 abbrev pub is_word : Y.Leaf → Bool
 is_word l = is_fixed l.type && (has_none l.bounds && has_none l.initial)
 
 abbrev pub is_one_word : List Y.Leaf → Bool
 is_one_word (l ∷ []) = is_word l
 is_one_word _ = false
+
+-- to which INITIAL may give values
+abbrev pub is_number_leaf : Y.Leaf → Bool
+is_number_leaf l = is_fixed l.type && (has_none l.bounds && are_values l.type l.initial)
+
+abbrev pub is_one_number : List Y.Leaf → Bool
+is_one_number (l ∷ []) = is_number_leaf l
+is_one_number _ = false
 
 abbrev pub is_automatic : Y.StorageClass → Bool
 is_automatic Y.AutomaticClass = true
@@ -88,11 +99,11 @@ abbrev pub is_absent : {A : Type 0} → Option A → Bool
 is_absent None = true
 is_absent (Some x) = false
 
--- AUTOMATIC FIXED BINARY(31), a scalar without INITIAL
+-- AUTOMATIC FIXED BINARY(31), a scalar
 abbrev pub is_plain : Y.DeclaredVariable → Bool
 is_plain d =
     is_automatic d.class
-    && (is_scalar d.members && (is_one_word d.leaves && (is_absent d.refer && has_none d.evaluations)))
+    && (is_scalar d.members && (is_one_number d.leaves && (is_absent d.refer && has_none d.evaluations)))
 
 abbrev pub is_plain_if : Option Y.DeclaredVariable → Bool
 is_plain_if None = false
@@ -165,6 +176,10 @@ abbrev pub is_given : Scope → Y.Reference → Bool
 is_given s (Y.Referring v Y.NotLocated part Y.NoNumber) =
     is_parameter_class v.class && ((part.first == 0) && ((part.count == 1) && is_received s (spot_of v)))
 is_given s _ = false
+
+-- all of a variable or a parameter, which may be passed by reference
+abbrev pub is_passed : Scope → Y.Reference → Bool
+is_passed s r = is_variable s r || is_given s r
 
 -- ---- arrays
 
@@ -262,6 +277,7 @@ abbrev mutual
       s.texts && (is_text (without_given s) searched && is_text (without_given s) sought)
   is_number s (Y.VerifyOf searched allowed) =
       s.texts && (is_text (without_given s) searched && is_text (without_given s) allowed)
+  is_number s Y.OnCode = s.codes
   is_number s _ = false
 
   -- a variable, a parameter, an element of an array, or what a pointer leads to
@@ -271,9 +287,10 @@ abbrev mutual
       is_element s v part && (is_number s subscript && is_wider s subscript)
   is_reference s r = is_variable s r || is_given s r
 
-  -- a number that is copied
+  -- a number that is copied, or what is passed by reference
   pub is_argument : Scope → Y.Argument → Bool
   is_argument s (Y.ByCopy type (Y.StoredNumber precision x)) = is_fixed type && ((precision == 31) && is_number s x)
+  is_argument s (Y.ByReference r) = is_passed s r
   is_argument s _ = false
 
   pub are_arguments : Scope → Y.Arguments → Bool
@@ -331,13 +348,14 @@ abbrev mutual
   pub call_needs : Y.Call → ℕ
   call_needs (Y.Calling number level arguments) = arguments_need arguments
 
-  -- one at a time; a value waits on its way into the list
+  -- one at a time
   pub arguments_need : Y.Arguments → ℕ
   arguments_need Y.NoArgument = 0
-  arguments_need (Y.ArgumentThen first rest) = max (max (argument_needs first) 1) (arguments_need rest)
+  arguments_need (Y.ArgumentThen first rest) = max (argument_needs first) (arguments_need rest)
 
+  -- a value waits on its way into the list
   pub argument_needs : Y.Argument → ℕ
-  argument_needs (Y.ByCopy type (Y.StoredNumber precision x)) = number_needs x
+  argument_needs (Y.ByCopy type (Y.StoredNumber precision x)) = max (number_needs x) 1
   argument_needs _ = 0
 
   -- all of them wait

@@ -1,7 +1,7 @@
--- The variables of a procedure's block: FIXED BINARY(31) scalars and arrays of one dimension, scalars of fewer bits,
--- and pointers, without INITIAL.
+-- The variables of a procedure's block: FIXED BINARY(31) scalars and arrays of one dimension, scalars of other types,
+-- and pointers; to all but pointers INITIAL may give values.
 use Rattle.std.specs.Prelude.{ℕ, ◌+◌, ◌%◌, ◌^◌, ◌<◌, ◌≤◌, ◌≡◌, ◌&&◌, ◌||◌, Bool, true, List, [], ◌∷◌, length, Some}
-use Rattle.std.specs.Prelude.{⊤}
+use Rattle.std.specs.Prelude.{Option, ⊤}
 use Rattle.rv_meaning.specs.declared.instr.Instr.{Instr}
 use Rattle.pli_typing.specs.Signatures.{Bounds, data_size, footprint}
 use Rattle.pli_typing.specs.TypedTree as Y
@@ -13,15 +13,17 @@ use Rattle.pli_coding.specs.Entries.{variables_code}
 use Rattle.pli_coding.specs.Environments.{Environment}
 use Rattle.pli_coding.specs.Frames.{fixed_size, last_place, parameters_of_block}
 use Rattle.pli_coding.specs.Locating.{table_number}
+use Rattle.pli_coding.specs.StaticData.{PlacedDatum}
 use Rattle.activation_relation.specs.Layers.{Layer, Point}
 use Rattle.activation_relation.specs.Points.{Surroundings}
 use Rattle.block_runs.specs.Machines.{HasParts}
 use Rattle.program_runs.specs.Calls.{Callee, begun_at, block_at}
+use Rattle.program_runs.specs.Initial.{Begins}
 use Rattle.program_runs.specs.Procedures.{layer_for}
 use Rattle.program_runs.specs.Statements.{Block, IsAmong, IsBegun}
 use Rattle.program_runs.specs.Variables.{Declared}
 use Rattle.expression_runs.specs.Variables.{IsNumber, Spot, variable_of}
-use Rattle.variable_runs.specs.Lists.{AreAll, newest_all}
+use Rattle.variable_runs.specs.Lists.{AreAllBegun, newest_all}
 use Rattle.function_runs.specs.Functions.{function_block}
 use Rattle.element_runs.specs.Arrays.{IsArray}
 use Rattle.scalar_runs.specs.Scalars.{IsScalar}
@@ -92,11 +94,16 @@ abbrev pub AreTabled : Environment → List Template → List Y.DeclaredVariable
 AreTabled e signatures [] = ⊤
 AreTabled e signatures (d ∷ ds) = IsTabled e signatures d × AreTabled e signatures ds
 
+-- what each begins with is told of static data
+abbrev pub EachBegins : (ℕ → Option ℕ) → List Instr → List PlacedDatum → List Y.DeclaredVariable → Type 0
+EachBegins constants code all [] = ⊤
+EachBegins constants code all (d ∷ ds) = Begins constants code all d × EachBegins constants code all ds
+
 -- ---- those of a procedure
 
-pub record HasWords (w : Surroundings) (c : Callee) (p : Point) (numbers : ℕ → ℕ) : Type 0 where
+pub record HasWords (w : Surroundings) (code : List Instr) (c : Callee) (p : Point) (numbers : ℕ → ℕ) : Type 0 where
   pub kind : c.procedure.head.kind ≡ Y.ProcedureBlock
-  pub code : c.procedure.variables ≡ variables_code c.environment c.procedure.head.line
+  pub coded : c.procedure.variables ≡ variables_code c.environment c.procedure.head.line
   pub block : c.environment.block ≡ c.procedure.head.number
   pub level : c.environment.level ≡ c.procedure.head.level
   pub program : c.around.program ≡ c.environment.program
@@ -107,6 +114,8 @@ pub record HasWords (w : Surroundings) (c : Callee) (p : Point) (numbers : ℕ �
   pub few : length (variables_of_block c.environment.program c.environment.block) ≤ w.serials
   pub tabled :
       AreTabled c.environment p.places.signatures (variables_of_block c.environment.program c.environment.block)
+  pub begin :
+      EachBegins p.places.constants code w.links.data' (variables_of_block c.environment.program c.environment.block)
   pub room :
       HaveRoom w (begun_at w c p numbers) (layer_for w p numbers c.procedure c.calling) p.control.layers
       (fixed_size c.environment.level 0)
@@ -137,37 +146,39 @@ own_bounds c x = bounds_if (declared_variable c.environment.program (variable_of
 pub record WordsMade : Type 0 where
   -- the procedure makes them, if they have room
   pub all :
-      (w : Surroundings) (c : Callee) (p : Point) (numbers : ℕ → ℕ) → HasWords w c p numbers →
-      AreAll w c p numbers (words_in c.environment)
+      (w : Surroundings) (code : List Instr) (c : Callee) (p : Point) (numbers : ℕ → ℕ) → HasWords w code c p numbers →
+      AreAllBegun w code c p numbers (words_in c.environment)
   -- wherever it is called, too
   pub among :
       (k : Block) (c : Callee) (p : Point) (numbers : ℕ → ℕ) → IsBegun k → IsAmong k numbers p →
-      HasWords k.call.surroundings c k.first numbers →
-      AreAll k.call.surroundings c p numbers (words_in c.environment)
+      HasWords k.call.surroundings k.call.code c k.first numbers →
+      AreAllBegun k.call.surroundings k.call.code c p numbers (words_in c.environment)
   -- and each is a number of its block, a procedure's or a function's
   pub own :
       (w : Surroundings) (code : List Instr) (c : Callee) (p q : Point) (numbers : ℕ → ℕ) (x : Spot) →
-      HasParts w.parts → HasWords w c q numbers × AreAll w c p numbers (words_in c.environment) → IsOwnWord c x →
-      IsBegun (block_at w code c p numbers) → IsNumber (block_at w code c p numbers) x
+      HasParts w.parts → HasWords w code c q numbers × AreAllBegun w code c p numbers (words_in c.environment) →
+      IsOwnWord c x → IsBegun (block_at w code c p numbers) → IsNumber (block_at w code c p numbers) x
   pub function :
       (w : Surroundings) (code : List Instr) (c : Callee) (p q : Point) (numbers : ℕ → ℕ) (x : Spot) →
-      HasParts w.parts → HasWords w c q numbers × AreAll w c p numbers (words_in c.environment) → IsOwnWord c x →
-      IsBegun (function_block w code c p numbers) → IsNumber (function_block w code c p numbers) x
+      HasParts w.parts → HasWords w code c q numbers × AreAllBegun w code c p numbers (words_in c.environment) →
+      IsOwnWord c x → IsBegun (function_block w code c p numbers) → IsNumber (function_block w code c p numbers) x
   -- or an array of it
   pub own_array :
       (w : Surroundings) (code : List Instr) (c : Callee) (p q : Point) (numbers : ℕ → ℕ) (x : Spot) →
-      HasParts w.parts → HasWords w c q numbers × AreAll w c p numbers (words_in c.environment) → IsOwnArray c x →
-      IsBegun (block_at w code c p numbers) → IsArray (block_at w code c p numbers) x (own_bounds c x)
+      HasParts w.parts → HasWords w code c q numbers × AreAllBegun w code c p numbers (words_in c.environment) →
+      IsOwnArray c x → IsBegun (block_at w code c p numbers) → IsArray (block_at w code c p numbers) x (own_bounds c x)
   pub function_array :
       (w : Surroundings) (code : List Instr) (c : Callee) (p q : Point) (numbers : ℕ → ℕ) (x : Spot) →
-      HasParts w.parts → HasWords w c q numbers × AreAll w c p numbers (words_in c.environment) → IsOwnArray c x →
+      HasParts w.parts → HasWords w code c q numbers × AreAllBegun w code c p numbers (words_in c.environment) →
+      IsOwnArray c x →
       IsBegun (function_block w code c p numbers) → IsArray (function_block w code c p numbers) x (own_bounds c x)
   -- or a scalar of fewer bits
   pub own_narrow :
       (w : Surroundings) (code : List Instr) (c : Callee) (p q : Point) (numbers : ℕ → ℕ) (x : Spot) →
-      HasParts w.parts → HasWords w c q numbers × AreAll w c p numbers (words_in c.environment) → IsOwnNarrow c x →
-      IsBegun (block_at w code c p numbers) → IsScalar (block_at w code c p numbers) x (own_type c x)
+      HasParts w.parts → HasWords w code c q numbers × AreAllBegun w code c p numbers (words_in c.environment) →
+      IsOwnNarrow c x → IsBegun (block_at w code c p numbers) → IsScalar (block_at w code c p numbers) x (own_type c x)
   pub function_narrow :
       (w : Surroundings) (code : List Instr) (c : Callee) (p q : Point) (numbers : ℕ → ℕ) (x : Spot) →
-      HasParts w.parts → HasWords w c q numbers × AreAll w c p numbers (words_in c.environment) → IsOwnNarrow c x →
+      HasParts w.parts → HasWords w code c q numbers × AreAllBegun w code c p numbers (words_in c.environment) →
+      IsOwnNarrow c x →
       IsBegun (function_block w code c p numbers) → IsScalar (function_block w code c p numbers) x (own_type c x)

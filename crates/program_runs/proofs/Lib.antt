@@ -12,6 +12,7 @@ pub mod Lists
 pub mod Calls
 pub mod CallStatements
 pub mod Programs
+pub mod Initial
 pub mod VariableMemory
 pub mod Variables
 pub mod VariableProcedures

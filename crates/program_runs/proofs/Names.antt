@@ -32,6 +32,7 @@ use Rattle.run_steps.specs.Items.{Linked}
 use Rattle.run_steps.specs.Reach.{Family, Reach}
 use Rattle.block_runs.specs.Machines.{AreEven, AreIn, IsImage, IsIn}
 use Rattle.program_runs.specs.Calls.{AreMade, Callee, begun_at}
+use Rattle.program_runs.specs.Initial.{MayBeMade}
 use Rattle.program_runs.specs.Names.{IsNamedOnly, name_told, named_of, named_point}
 use Rattle.program_runs.specs.Procedures.{layer_for}
 use Rattle.program_runs.specs.Variables.{Declared, IsDeclared, generation_for, made_of, newest_made}
@@ -39,7 +40,7 @@ use Rattle.program_runs.specs.Variables.{place_behind}
 use Rattle.program_runs.proofs.VariableMemory.{Around, fits_block, frames_grown, frames_stay, made_holding}
 use Rattle.program_runs.proofs.VariableMemory.{made_memory, place_small, told_there}
 use Rattle.program_runs.proofs.VariableProcedures.{one_by}
-use Rattle.program_runs.proofs.Variables.{Becomes, becomes_comes}
+use Rattle.program_runs.proofs.Variables.{Becomes, becomes_comes, without_initial}
 
 -- ---- its words
 
@@ -250,6 +251,25 @@ named_becomes {w} {p = p} {x = x} {φ = φ} k few =
 
 -- ---- the code
 
+-- with INITIAL values, too
+pub begun_comes :
+    (w : Surroundings) (code : List Instr) (e : Environment) (p : Point) (numbers : ℕ → ℕ) (x : Declared) (φ : Layer)
+    (φs : List Layer) (credits index : ℕ) (f : Family) → Stands w p × IsImage w code p → MayBeMade w code p x φ φs →
+    p.state.serials + 1 < 2 ^ 64 → (table_number e x.declared ≡ x.number) × (e.parts ≡ w.parts) →
+    Linked w.links code index (constant_made e x.place x.declared) → AreIn w p numbers index f →
+    Reach code credits f (services_of p) (credits + size_of (constant_made e x.place x.declared))
+    (services_of (named_point w.parts φ x p))
+    (λ b y. IsIn w (named_point w.parts φ x p) numbers (index + size_of (constant_made e x.place x.declared)) b y)
+begun_comes w code e p numbers x φ φs credits index f known may few same l there =
+    becomes_comes w code e p (named_point w.parts φ x p) numbers x φ φs credits index f known may
+    (named_becomes (record { stands = known.0; image = known.1; is = may }) few) same l there
+
+pub begun_stands :
+    (w : Surroundings) (code : List Instr) (p : Point) (x : Declared) (φ : Layer) (φs : List Layer) →
+    Stands w p × IsImage w code p → MayBeMade w code p x φ φs →
+    Stands w (named_point w.parts φ x p) × IsImage w code (named_point w.parts φ x p)
+begun_stands w code p x φ φs known may = named_stands (record { stands = known.0; image = known.1; is = may })
+
 pub name_comes :
     (w : Surroundings) (code : List Instr) (e : Environment) (p : Point) (numbers : ℕ → ℕ) (x : Declared) (φ : Layer)
     (φs : List Layer) (credits index : ℕ) (f : Family) → Stands w p × IsImage w code p → IsDeclared w p x φ φs →
@@ -259,14 +279,13 @@ pub name_comes :
     (services_of (named_point w.parts φ x p))
     (λ b y. IsIn w (named_point w.parts φ x p) numbers (index + size_of (constant_made e x.place x.declared)) b y)
 name_comes w code e p numbers x φ φs credits index f known is few same l there =
-    becomes_comes w code e p (named_point w.parts φ x p) numbers x φ φs credits index f known is
-    (named_becomes (record { stands = known.0; image = known.1; is = is }) few) same l there
+    begun_comes w code e p numbers x φ φs credits index f known (without_initial w code p x φ φs is) few same l there
 
 pub name_stands :
     (w : Surroundings) (code : List Instr) (p : Point) (x : Declared) (φ : Layer) (φs : List Layer) →
     Stands w p × IsImage w code p → IsDeclared w p x φ φs →
     Stands w (named_point w.parts φ x p) × IsImage w code (named_point w.parts φ x p)
-name_stands w code p x φ φs known is = named_stands (record { stands = known.0; image = known.1; is = is })
+name_stands w code p x φ φs known is = begun_stands w code p x φ φs known (without_initial w code p x φ φs is)
 
 pub one_named :
     (w : Surroundings) (code : List Instr) (c : Callee) (p : Point) (numbers : ℕ → ℕ) (x : Declared) →
@@ -277,4 +296,8 @@ one_named w code c p numbers x h =
     one_by w code (record c { made = newest_made w.parts x }) c.made p numbers x
     (name_told x.place (p.state.serials + 1) φ.told) h.only
     (ap (λ (made : Point → Point). made start) h.made)
-    (λ known. named_becomes (record { stands = known.0; image = known.1; is = h.only.declared }) h.serial)
+    (λ known. named_becomes (record {
+      stands = known.0;
+      image = known.1;
+      is = without_initial w code start x φ p.control.layers h.only.declared;
+    }) h.serial)

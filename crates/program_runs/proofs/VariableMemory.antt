@@ -29,6 +29,8 @@ use Rattle.pli_serving.specs.ServiceState as S
 use Rattle.pli_serving.specs.ServiceState.{Services}
 use Rattle.pli_serving.specs.Values.{generation_bytes}
 use Rattle.pli_coding.specs.Frames.{MemoryParts, name_bytes}
+use Rattle.pli_coding.specs.StaticForms.{initial_datum}
+use Rattle.storage_relation.specs.Beginning.{place_if}
 use Rattle.storage_relation.specs.Changes.{Making, IsMaking, made}
 use Rattle.storage_relation.specs.Served.{Holds, served_living}
 use Rattle.storage_relation.specs.Stored.{IsBeside}
@@ -47,7 +49,9 @@ use Rattle.run_steps.specs.Engine.{call_at}
 use Rattle.run_steps.specs.Unlimited as U
 use Rattle.block_runs.specs.Machines.{AreEven, IsImage}
 use Rattle.block_runs.proofs.Places.{bounds}
-use Rattle.program_runs.specs.Variables.{Declared, IsDeclared, generation_for, made_of, place_behind}
+use Rattle.program_runs.specs.Initial.{MayBeMade}
+use Rattle.program_runs.specs.Variables.{Declared, generation_for, made_of, place_behind}
+use Rattle.program_runs.proofs.Initial.{values_read}
 
 -- ---- around it
 
@@ -55,7 +59,7 @@ pub record Around (w : Surroundings) (code : List Instr) (p : Point) (x : Declar
     Type 0 where
   pub stands : Stands w p
   pub image : IsImage w code p
-  pub is : IsDeclared w p x φ φs
+  pub is : MayBeMade w code p x φ φs
 
 pub laid_here :
     {w : Surroundings} {code : List Instr} {p : Point} {x : Declared} {φ : Layer} {φs : List Layer} →
@@ -360,12 +364,20 @@ limit_kept :
 limit_kept true used e = refl
 limit_kept false used e = grind (arith, e, nat_tests)
 
+-- where the values stand that it begins with
+abbrev pub values_place :
+    {w : Surroundings} {code : List Instr} {p : Point} {x : Declared} {φ : Layer} {φs : List Layer} →
+    Around w code p x φ φs → ℕ
+values_place {w} {x = x} k = place_if w.links.data' (initial_datum x.declared)
+
 pub made_answer :
-    {w : Surroundings} {code : List Instr} {p : Point} {x : Declared} {φ : Layer} {φs : List Layer} (m : List ℕ) →
-    Around w code p x φ φs → length m ≡ memory_size → Holds (now p m) → 4 * length code ≤ 2 ^ 22 →
-    U.make_served (call_at code (services_of p) m) (φ.at + x.place) x.number 0 (φ.at + (x.place + name_bytes)) 0
+    {w : Surroundings} {code : List Instr} {p : Point} {x : Declared} {φ : Layer} {φs : List Layer} (m : List ℕ)
+    (k : Around w code p x φ φs) → length m ≡ memory_size → Holds (now p m) → 4 * length code ≤ 2 ^ 22 →
+    0 < length code →
+    U.make_served (call_at code (services_of p) m) (φ.at + x.place) x.number (values_place k)
+    (φ.at + (x.place + name_bytes)) 0
     ≡ Done (services_of (with_made (made_of w.parts φ x) p)) (made_memory p φ x m) (φ.at + x.place) x.number
-made_answer {w} {code} {p} {x} {φ} {φs} m k bytes h small' =
+made_answer {w} {code} {p} {x} {φ} {φs} m k bytes h small' some =
     let v = services_of p in
     let c = call_at code v m in
     let g = generation_for x in
@@ -391,11 +403,13 @@ made_answer {w} {code} {p} {x} {φ} {φs} m k bytes h small' =
     (with_part (B.name_bytes (VariableName (p.state.serials + 1))) name
     (with_part (G.bytes_made c place g (capacity_of shape)) place m)) name x.number in
     let bytes_of : Services → Answer = λ u. Done u (made_memory p φ x m) name x.number in
-    ap (λ q. or_bad q (λ own. or_bad (shape_of_number c x.number) (λ s. or_bad (initial_values c s.signature.leaves 0)
+    ap (λ q. or_bad q (λ own. or_bad (shape_of_number c x.number) (λ s. or_bad
+    (initial_values c s.signature.leaves (values_place k))
     (λ values. U.limited c name x.number place own (fresh s (pos 0) values))))) (owner_given p φ φs k.is.newest)
-    ∙ ap (λ q. or_bad q (λ s. or_bad (initial_values c s.signature.leaves 0)
+    ∙ ap (λ q. or_bad q (λ s. or_bad (initial_values c s.signature.leaves (values_place k))
     (λ values. U.limited c name x.number place owner (fresh s (pos 0) values)))) k.is.shape
-    ∙ ap (λ values. U.limited c name x.number place owner (fresh shape (pos 0) values)) k.is.none
+    ∙ ap (λ values. or_bad values (λ given. U.limited c name x.number place owner (fresh shape (pos 0) given)))
+    (values_read code p w.links.data' x.declared m k.is.initial some bytes h)
     ∙ ap (λ q. cond q (run_ended (E.Limit L.Automatic) v)
     (U.variable_made c name x.number place owner (p.state.serials + 1) g)) limit
     ∙ ap (λ q. bad_unless ((nat_le (4 * length code) place

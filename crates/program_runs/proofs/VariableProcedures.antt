@@ -23,7 +23,7 @@ use Rattle.block_runs.specs.Machines.{IsImage, IsIn}
 use Rattle.program_runs.specs.Calls.{AreMade, Callee, act_index, begun_at, variables_index}
 use Rattle.program_runs.specs.Procedures.{beginning_for, layer_for}
 use Rattle.program_runs.specs.Variables.{Declared, IsOnly, generation_for, made_of}
-use Rattle.program_runs.proofs.Variables.{Becomes, becomes_comes, made_becomes, variable_means}
+use Rattle.program_runs.proofs.Variables.{Becomes, becomes_comes, made_becomes, variable_means, without_initial}
 
 -- what is meant by a block's variables, where it has this one
 pub variables_mean :
@@ -79,7 +79,8 @@ one_by w code c made'' p numbers x told h here becomes =
           (subst (λ xs. Reach code credits f (services_of start) (credits + size_of xs) (services_of q)
           (λ b z. IsIn w q numbers (variables_index c + size_of xs) b z)) (sym h.code)
           (becomes_comes w code c.environment start q numbers x φ p.control.layers credits (variables_index c) f known
-          h.declared (becomes known) (h.table, h.parts) (subst (Linked w.links code (variables_index c)) h.code l)
+          (without_initial w code start x φ p.control.layers h.declared) (becomes known) (h.table, h.parts)
+          (subst (Linked w.links code (variables_index c)) h.code l)
           there));
       means = block_means around' c.procedure.head c.procedure.head.kind x.declared w.acts start.state q.state h.kind
           h.variables
@@ -118,4 +119,8 @@ one_made w code c p numbers x h =
     let start = begun_at w c p numbers in
     let φ = layer_for w p numbers c.procedure c.calling in
     one_by w code c c.made p numbers x φ.told h (ap (λ (made : Point → Point). made start) h.made)
-    (λ known. made_becomes (record { stands = known.0; image = known.1; is = h.declared }))
+    (λ known. made_becomes (record {
+      stands = known.0;
+      image = known.1;
+      is = without_initial w code start x φ p.control.layers h.declared;
+    }))

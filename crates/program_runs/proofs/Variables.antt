@@ -1,10 +1,11 @@
 -- The code that makes a variable in the newest block.
-use Rattle.std.proofs.Common.{◌≡◌, ℕ, ◌+◌, ◌^◌, ◌<◌, List, [], ◌∷◌, ◌++◌, length, refl, sym, ap}
+use Rattle.std.proofs.Common.{◌≡◌, ℕ, ◌+◌, ◌^◌, ◌<◌, List, [], ◌∷◌, ◌++◌, length, Option, None, Some, true, refl, sym}
+use Rattle.std.proofs.Common.{ap}
 use Rattle.std.proofs.Common.{◌∙◌, subst, arith}
 use Rattle.std.proofs.lemmas.Bool.{eq-eqb}
 use Rattle.std.proofs.lemmas.List.{append_assoc}
 use Rattle.std.proofs.lemmas.Int.{ints}
-use Rattle.std.specs.Prelude.{cond, pos}
+use Rattle.std.specs.Prelude.{cond, nat_le, pos}
 use Rattle.rv_meaning.specs.declared.instr.Instr.{Instr}
 use Rattle.rv_meaning.specs.declared.instr.Instr.TheVariants as I
 use Rattle.rv_meaning.specs.declared.instr.ImmediateOp.TheVariants as Imm
@@ -14,13 +15,14 @@ use Rattle.rv_meaning.specs.Memory.{load}
 use Rattle.rv_meaning.specs.Words.{word, sum}
 use Rattle.pli_meaning.specs.declared.outcome.End.TheVariants as E
 use Rattle.pli_meaning.specs.declared.outcome.Limit.TheVariants as L
+use Rattle.pli_meaning.specs.Contents.{footprint_of}
 use Rattle.pli_meaning.specs.Control.{Normal, choose, finish, looked, stored, ◌>>=◌}
 use Rattle.pli_meaning.specs.Making as K
 use Rattle.pli_meaning.specs.Making.{with_variable}
-use Rattle.pli_meaning.specs.StorageState.{Activation}
+use Rattle.pli_meaning.specs.StorageState.{Activation, automatic_in_use, most_automatic}
 use Rattle.pli_serving.specs.Answers.{Answer, Done}
 use Rattle.pli_serving.specs.ServiceState.{Services}
-use Rattle.pli_coding.specs.Assembly.{Code, Plain, size_of}
+use Rattle.pli_coding.specs.Assembly.{Code, DataPlace, Datum, OffsetOf, Plain, size_of}
 use Rattle.pli_coding.specs.Entries.{constant_made}
 use Rattle.pli_coding.specs.Environments.{Environment}
 use Rattle.pli_coding.specs.Extents.{initial_code, initial_given}
@@ -28,7 +30,10 @@ use Rattle.pli_coding.specs.Frames.{MemoryParts, display, name_bytes, own_offset
 use Rattle.pli_coding.specs.Instructions.{is_immediate, load_word, number, plus, small}
 use Rattle.pli_coding.specs.Linking.{Links}
 use Rattle.pli_coding.specs.Locating.{own_place, table_number}
+use Rattle.pli_coding.specs.StaticData.{datum_place}
+use Rattle.pli_coding.specs.StaticForms.{initial_datum}
 use Rattle.pli_coding.specs.Registers.{frame_register, stack_register, a0, a1, a2, a3, a4, a7}
+use Rattle.storage_relation.specs.Beginning.{place_if}
 use Rattle.activation_relation.specs.Frames.{FramesStand, frame_under, upper_top}
 use Rattle.activation_relation.specs.Layers.{Layer, Point, services_of}
 use Rattle.activation_relation.specs.Points.{Surroundings, Stands}
@@ -53,9 +58,11 @@ use Rattle.block_runs.proofs.BlockEntries.{small_is, word_fits, word_is}
 use Rattle.block_runs.proofs.FrameBeginnings.{stack_put}
 use Rattle.block_runs.proofs.Places.{IsFrame, ground_at, word_in}
 use Rattle.block_runs.proofs.PointGrounds.{StandsIn, in_known, known_in, point_frame, point_ground}
+use Rattle.program_runs.specs.Initial.{MayBeMade}
 use Rattle.program_runs.specs.Variables.{Declared, IsDeclared, generation_for, made_of, place_behind}
+use Rattle.program_runs.proofs.Initial.{bare_begins, place_near}
 use Rattle.program_runs.proofs.VariableMemory.{Around, made_answer, made_frames, made_holding, made_length, made_memory}
-use Rattle.program_runs.proofs.VariableMemory.{made_stands, place_small}
+use Rattle.program_runs.proofs.VariableMemory.{made_stands, place_small, values_place}
 
 -- ---- the frame's own place
 
@@ -116,70 +123,120 @@ own_comes {w} {p} {numbers = numbers} {rs = rs} h c f r place few near free far 
 
 -- ---- what service 7 is given
 
-abbrev name_code : Declared → Code
+abbrev pub name_code : Declared → Code
 name_code x = own_code a0 x.place
 
-abbrev data_code : Declared → Code
+abbrev pub data_code : Declared → Code
 data_code x = own_code a3 (x.place + name_bytes)
 
-abbrev stack_code : MemoryParts → Declared → Code
+abbrev pub stack_code : MemoryParts → Declared → Code
 stack_code parts x = plus stack_register frame_register (pos (place_behind parts x))
 
-abbrev asking_code : Declared → Code
+abbrev pub asking_code : Declared → Code
 asking_code x = small a4 0 ∷ small a7 7 ∷ []
 
-abbrev behind_data : MemoryParts → Declared → Code
+abbrev pub behind_data : MemoryParts → Declared → Code
 behind_data parts x = small a4 0 ∷ small a7 7 ∷ Plain I.Ecall ∷ stack_code parts x
 
-abbrev made_code : MemoryParts → Declared → Code
-made_code parts x =
-    name_code x ++ (number a1 x.number ++ (small a2 0 ∷ (data_code x ++ behind_data parts x)))
+-- where the values stand that it begins with, or 0
+abbrev pub given_code : Declared → Code
+given_code x = initial_code a2 x.declared
 
-made_coded :
-    (w : Surroundings) (e : Environment) (p : Point) (x : Declared) (φ : Layer) (φs : List Layer) →
-    IsDeclared w p x φ φs → (table_number e x.declared ≡ x.number) × (e.parts ≡ w.parts) →
+abbrev pub given_place : Links → Declared → ℕ
+given_place links x = place_if links.data' (initial_datum x.declared)
+
+abbrev pub made_code : MemoryParts → Declared → Code
+made_code parts x =
+    name_code x ++ (number a1 x.number ++ (given_code x ++ (data_code x ++ behind_data parts x)))
+
+pub made_coded :
+    (w : Surroundings) (e : Environment) (x : Declared) →
+    (table_number e x.declared ≡ x.number) × (e.parts ≡ w.parts) →
     constant_made e x.place x.declared ≡ made_code w.parts x
-made_coded w e p x φ φs is same =
+made_coded w e x same =
     let rest : MemoryParts → Code = λ parts. small a4 0 ∷ small a7 7 ∷ Plain I.Ecall ∷ stack_code parts x in
-    ap (λ u. u ++ (number a1 (table_number e x.declared) ++ (initial_code a2 x.declared
+    ap (λ u. u ++ (number a1 (table_number e x.declared) ++ (given_code x
     ++ (own_place e a3 (pos (x.place + name_bytes)) ++ rest e.parts)))) (own_coded e a0 x.place)
-    ∙ ap (λ n. name_code x ++ (number a1 n ++ (initial_code a2 x.declared
+    ∙ ap (λ n. name_code x ++ (number a1 n ++ (given_code x
     ++ (own_place e a3 (pos (x.place + name_bytes)) ++ rest e.parts)))) same.0
-    ∙ ap (λ o. name_code x ++ (number a1 x.number ++ (initial_given a2 o
-    ++ (own_place e a3 (pos (x.place + name_bytes)) ++ rest e.parts)))) is.initial
-    ∙ ap (λ u. name_code x ++ (number a1 x.number ++ (small a2 0 ∷ (u ++ rest e.parts))))
+    ∙ ap (λ u. name_code x ++ (number a1 x.number ++ (given_code x ++ (u ++ rest e.parts))))
     (own_coded e a3 (x.place + name_bytes))
-    ∙ ap (λ parts. name_code x ++ (number a1 x.number ++ (small a2 0 ∷ (data_code x ++ rest parts)))) same.1
+    ∙ ap (λ parts. name_code x ++ (number a1 x.number ++ (given_code x ++ (data_code x ++ rest parts)))) same.1
 
 -- the registers then
-abbrev name_regs : Surroundings → Point → Declared → Base → List (ℕ × ℕ)
+abbrev pub name_regs : Surroundings → Point → Declared → Base → List (ℕ × ℕ)
 name_regs w p x b = (10, frame_under w.parts p.control.layers + x.place) ∷ []
 
-abbrev front_regs : Surroundings → Point → Declared → Base → List (ℕ × ℕ)
-front_regs w p x b = (12, 0) ∷ (11, x.number) ∷ name_regs w p x b
+abbrev pub number_regs : Surroundings → Point → Declared → Base → List (ℕ × ℕ)
+number_regs w p x b = (11, x.number) ∷ name_regs w p x b
 
-abbrev asked_regs : Surroundings → Point → Declared → Base → List (ℕ × ℕ)
-asked_regs w p x b =
-    (17, 7) ∷ (14, 0) ∷ (13, frame_under w.parts p.control.layers + (x.place + name_bytes)) ∷ front_regs w p x b
+abbrev pub front_regs : Surroundings → Point → (given : ℕ) → Declared → Base → List (ℕ × ℕ)
+front_regs w p given x b = (12, given) ∷ number_regs w p x b
 
-abbrev front_code : Declared → Code
-front_code x = name_code x ++ (number a1 x.number ++ (small a2 0 ∷ []))
+abbrev pub asked_regs : Surroundings → Point → (given : ℕ) → Declared → Base → List (ℕ × ℕ)
+asked_regs w p given x b =
+    (17, 7) ∷ (14, 0) ∷ (13, frame_under w.parts p.control.layers + (x.place + name_bytes)) ∷ front_regs w p given x b
 
--- the name's place and the number
-front_asked :
+abbrev pub front_code : Declared → Code
+front_code x = name_code x ++ (number a1 x.number ++ given_code x)
+
+-- by the datum that is named
+given_comes :
+    {w : Surroundings} {p : Point} {links : Links} {code : List Instr} {i : ℕ} {numbers : ℕ → ℕ} (o : Option Datum)
+    (x : Declared) (h : IsFrame (frame_under w.parts p.control.layers)) (c : ℕ) (f : Family) →
+    place_if links.data' o < 2 ^ 32 → Linked links code i (initial_given a2 o) →
+    ((b : Base) → At b i (Known (point_ground w p h) (services_of p) numbers (λ n. 0) (number_regs w p x) b) (f b)) →
+    Reach code c f (services_of p) (c + size_of (initial_given a2 o)) (services_of p)
+    (λ b y. At b (i + size_of (initial_given a2 o)) (Known (point_ground w p h) (services_of p) numbers (λ n. 0)
+    (front_regs w p (place_if links.data' o) x) b) y)
+given_comes {w} {p} {links} {numbers = numbers} None x h c f near l there =
+    let v = services_of p in
+    straight c f v v (λ b y. Known (point_ground w p h) v numbers (λ n. 0) (front_regs w p 0 x) b y) l (omega arith)
+    (λ b. (there b).pc)
+    (λ b. let o = (there b).holds in record {
+      body = record {
+        services = o.body.services;
+        registers = o.body.registers;
+        bytes = o.body.bytes;
+        memory = o.body.memory;
+      };
+      regs = (small_is _ 0 (zero_is o.body) (omega arith), o.regs);
+    })
+given_comes {w} {p} {links} {numbers = numbers} (Some d) x h c f near l there =
+    let v = services_of p in
+    straight c f v v
+    (λ b y. Known (point_ground w p h) v numbers (λ n. 0) (front_regs w p (datum_place d links.data') x) b y) l
+    (omega arith)
+    (λ b. (there b).pc)
+    (λ b. let o = (there b).holds in (
+      omega (arith, near),
+      refl,
+      record {
+        body = record {
+          services = o.body.services;
+          registers = o.body.registers;
+          bytes = o.body.bytes;
+          memory = o.body.memory;
+        };
+        regs = (refl, o.regs);
+      },
+    ))
+
+-- the name's place, the number and what it begins with
+pub front_asked :
     {w : Surroundings} {p : Point} {links : Links} {code : List Instr} {i : ℕ} {numbers : ℕ → ℕ} (x : Declared)
     (h : IsFrame (frame_under w.parts p.control.layers)) (c : ℕ) (f : Family) →
-    frame_under w.parts p.control.layers + x.place < 2 ^ 24 → x.number < 2 ^ 31 → Linked links code i (front_code x) →
-    ((b : Base) → IsIn w p numbers i b (f b)) →
+    frame_under w.parts p.control.layers + x.place < 2 ^ 24 → x.number < 2 ^ 31 → given_place links x < 2 ^ 32 →
+    Linked links code i (front_code x) → ((b : Base) → IsIn w p numbers i b (f b)) →
     Reach code c f (services_of p) (c + size_of (front_code x)) (services_of p)
     (λ b y. At b (i + size_of (front_code x)) (Known (point_ground w p h) (services_of p) numbers (λ n. 0)
-    (front_regs w p x) b) y)
-front_asked {w} {p} {numbers = numbers} x h c f few small' l there =
+    (front_regs w p (given_place links x) x) b) y)
+front_asked {w} {p} {numbers = numbers} x h c f few small' near l there =
     let v = services_of p in
     let at = frame_under w.parts p.control.layers in
     let name = name_code x in
     let num = number a1 x.number in
-    let last = small a2 0 ∷ [] in
+    let last = given_code x in
     let n0 = size_append name (num ++ last) in
     let n1 = size_append num last in
     let l1 = back_of name (num ++ last) l in
@@ -191,42 +248,38 @@ front_asked {w} {p} {numbers = numbers} x h c f few small' l there =
     let r2 = constant_piece (c + size_of name) (reached r1) a1 (pos x.number) (word_fits x.number small')
     (record { reserved_stay = λ y u. refl; known_stay = λ b y u o. o; set = λ y u. refl })
     (front_of num last l1) (reached_holds r1) in
-    let r3 = straight (c + size_of name + size_of num) (reached r2) v v
-    (λ b y. Known (point_ground w p h) v numbers (λ n. 0) (front_regs w p x) b y) (back_of num last l1) (omega arith)
-    (λ b. (reached_holds r2 b).pc)
-    (λ b. let o = (reached_holds r2 b).holds in record {
-      body = record {
-        services = o.body.services;
-        registers = o.body.registers;
-        bytes = o.body.bytes;
-        memory = o.body.memory;
-      };
-      regs = (small_is _ 0 (zero_is o.body) (omega arith), (o.regs.0 ∙ word_is x.number small', o.regs.1));
+    let r3 = given_comes (initial_datum x.declared) x h (c + size_of name + size_of num) (reached r2) near
+    (back_of num last l1)
+    (λ b. let o = reached_holds r2 b in record {
+      pc = o.pc;
+      holds = record { body = o.holds.body; regs = (o.holds.regs.0 ∙ word_is x.number small', o.holds.regs.1) };
     }) in
     reach_moved (omega (arith, n0, n1)) (omega (arith, n0, n1)) (reach_then r1 (reach_then r2 r3))
 
 -- and where its data stand
-all_asked :
-    {w : Surroundings} {p : Point} {links : Links} {code : List Instr} {i : ℕ} {numbers : ℕ → ℕ} (x : Declared)
-    (h : IsFrame (frame_under w.parts p.control.layers)) (c : ℕ) (f : Family) →
+pub all_asked :
+    {w : Surroundings} {p : Point} {links : Links} {code : List Instr} {i : ℕ} {numbers : ℕ → ℕ} (given : ℕ)
+    (x : Declared) (h : IsFrame (frame_under w.parts p.control.layers)) (c : ℕ) (f : Family) →
     frame_under w.parts p.control.layers + (x.place + name_bytes) < 2 ^ 24 →
     Linked links code i (data_code x ++ asking_code x) →
-    ((b : Base) → At b i (Known (point_ground w p h) (services_of p) numbers (λ n. 0) (front_regs w p x) b) (f b)) →
+    ((b : Base) → At b i (Known (point_ground w p h) (services_of p) numbers (λ n. 0) (front_regs w p given x) b)
+    (f b)) →
     Reach code c f (services_of p) (c + size_of (data_code x ++ asking_code x)) (services_of p)
     (λ b y. At b (i + size_of (data_code x ++ asking_code x)) (Known (point_ground w p h) (services_of p) numbers
-    (λ n. 0) (asked_regs w p x) b) y)
-all_asked {w} {p} {numbers = numbers} x h c f few l there =
+    (λ n. 0) (asked_regs w p given x) b) y)
+all_asked {w} {p} {numbers = numbers} given x h c f few l there =
     let v = services_of p in
     let data' = data_code x in
     let two = asking_code x in
     let n = size_append data' two in
-    let r1 = own_comes {rs = front_regs w p x} h c f a3 (x.place + name_bytes) few (λ y u. refl)
+    let r1 = own_comes {rs = front_regs w p given x} h c f a3 (x.place + name_bytes) few (λ y u. refl)
     (record { reserved_stay = λ y u. refl; known_stay = λ b y u o. o; set = λ y u. refl })
     (record { reserved_stay = λ y u. refl; known_stay = λ b y u o. o; set = λ y u. refl })
     (record { reserved_stay = λ y u. refl; known_stay = λ b y u o. o; set = λ y u. refl })
     (front_of data' two l) there in
     let r2 = straight (c + size_of data') (reached r1) v v
-    (λ b y. Known (point_ground w p h) v numbers (λ n'. 0) (asked_regs w p x) b y) (back_of data' two l) (omega arith)
+    (λ b y. Known (point_ground w p h) v numbers (λ n'. 0) (asked_regs w p given x) b y) (back_of data' two l)
+    (omega arith)
     (λ b. (reached_holds r1 b).pc)
     (λ b. let o = (reached_holds r1 b).holds in record {
       body = record {
@@ -248,7 +301,8 @@ calling_made :
     {w : Surroundings} {code : List Instr} {p : Point} {x : Declared} {φ : Layer} {φs : List Layer} {i : ℕ}
     {numbers : ℕ → ℕ} (k : Around w code p x φ φs) (h : IsFrame (frame_under w.parts p.control.layers)) (f : Family) →
     frame_under w.parts p.control.layers ≡ φ.at → Linked w.links code i (Plain I.Ecall ∷ []) →
-    ((b : Base) → At b i (Known (point_ground w p h) (services_of p) numbers (λ n. 0) (asked_regs w p x) b) (f b)) →
+    ((b : Base) → At b i (Known (point_ground w p h) (services_of p) numbers (λ n. 0)
+    (asked_regs w p (values_place k) x) b) (f b)) →
     Calling w.links code i f
     (λ b. Done (services_of (with_made (made_of w.parts φ x) p)) (made_memory p φ x (f b).machine.memory)
     (φ.at + x.place) x.number)
@@ -256,17 +310,19 @@ calling_made {w} {code} {p} {x} {φ} {φs} k h f same l there =
     let at = frame_under w.parts p.control.layers in
     let v = services_of p in
     let small' = l.small' in
+    let inside = l.inside in
     record {
       linked = l;
       pc = λ b. (there b).pc;
       answers = λ b.
           let o = (there b).holds in
           let m = (f b).machine.memory in
-          called code (f b) v 7 (at + x.place) x.number 0 (at + (x.place + name_bytes)) 0
+          called code (f b) v 7 (at + x.place) x.number (values_place k) (at + (x.place + name_bytes)) 0
           (λ call x0 x1 x2 x3 x4. U.make_served call x0 x1 x2 x3 x4) o.body.services o.regs.0 o.regs.1.1.1.1.1.0
           o.regs.1.1.1.1.0 o.regs.1.1.1.0 o.regs.1.1.0 o.regs.1.0 (λ call y. refl)
-          ∙ ap (λ n. U.make_served (call_at code v m) (n + x.place) x.number 0 (n + (x.place + name_bytes)) 0) same
-          ∙ made_answer m k o.body.bytes o.body.memory.storage (omega (arith, small'));
+          ∙ ap (λ n. U.make_served (call_at code v m) (n + x.place) x.number (values_place k)
+          (n + (x.place + name_bytes)) 0) same
+          ∙ made_answer m k o.body.bytes o.body.memory.storage (omega (arith, small')) (omega (arith, inside));
     }
 
 -- a point that has the variable, whatever is told of its name
@@ -329,9 +385,19 @@ stack_taken {w} {p = p} {q = q} {x = x} {φ = φ} {numbers = numbers} k becomes 
 
 -- ---- the whole
 
+pub split_code :
+    (name num given data' tail : Code) →
+    name ++ (num ++ (given ++ (data' ++ tail))) ≡ (name ++ (num ++ given)) ++ (data' ++ tail)
+split_code name num given data' tail =
+    ap (λ u. name ++ u) (sym (append_assoc num given (data' ++ tail)))
+    ∙ sym (append_assoc name (num ++ given) (data' ++ tail))
+
+split_data : (data' two rest : Code) → data' ++ (two ++ rest) ≡ (data' ++ two) ++ rest
+split_data data' two rest = sym (append_assoc data' two rest)
+
 pub becomes_comes :
     (w : Surroundings) (code : List Instr) (e : Environment) (p q : Point) (numbers : ℕ → ℕ) (x : Declared) (φ : Layer)
-    (φs : List Layer) (c index : ℕ) (f : Family) → Stands w p × IsImage w code p → IsDeclared w p x φ φs →
+    (φs : List Layer) (c index : ℕ) (f : Family) → Stands w p × IsImage w code p → MayBeMade w code p x φ φs →
     Becomes w code p x φ q → (table_number e x.declared ≡ x.number) × (e.parts ≡ w.parts) →
     Linked w.links code index (constant_made e x.place x.declared) → AreIn w p numbers index f →
     Reach code c f (services_of p) (c + size_of (constant_made e x.place x.declared)) (services_of q)
@@ -347,29 +413,32 @@ becomes_comes w code e p q numbers x φ φs c index f known is becomes same l th
     let acts = ap (λ (u : Services). u.world.acts) becomes.services in
     let few = place_small k in
     let holds = is.holds in
-    let coded = made_coded w e p x φ φs is same in
+    let coded = made_coded w e x same in
     let size = ap (λ u. size_of u) coded in
     let l' = subst (Linked w.links code index) coded l in
     let name = name_code x in
     let num = number a1 x.number in
+    let given = given_code x in
     let data' = data_code x in
     let stack = stack_code w.parts x in
     let tail = behind_data w.parts x in
-    let n0 = size_append name (num ++ (small a2 0 ∷ (data' ++ tail))) in
-    let n1 = size_append num (small a2 0 ∷ (data' ++ tail)) in
+    let n0 = size_append name (num ++ (given ++ (data' ++ tail))) in
+    let n1 = size_append num (given ++ (data' ++ tail)) in
     let n2 = size_append data' tail in
-    let n3 = size_append name (num ++ (small a2 0 ∷ [])) in
-    let n4 = size_append num (small a2 0 ∷ []) in
+    let n3 = size_append name (num ++ given) in
+    let n4 = size_append num given in
+    let n6 = size_append given (data' ++ tail) in
     let n5 = size_append data' (asking_code x) in
-    let l1 = subst (Linked w.links code index) (split_code name num data' tail) l' in
+    let l1 = subst (Linked w.links code index) (split_code name num given data' tail) l' in
     let front = front_code x in
     let two = asking_code x in
     let l2 = back_of front (data' ++ tail) l1 in
     let l3 = subst (Linked w.links code (index + size_of front)) (split_data data' two (Plain I.Ecall ∷ stack)) l2 in
     let l4 = back_of (data' ++ two) (Plain I.Ecall ∷ stack) l3 in
-    let r1 = front_asked x h c f (omega (arith, few, here, holds)) is.number (front_of front (data' ++ tail) l1)
-    there in
-    let r2 = all_asked x h (c + size_of front) (reached r1) (omega (arith, few, here, holds))
+    let r1 = front_asked x h c f (omega (arith, few, here, holds)) is.number
+    (place_near p.places.constants code w.links.data' x.declared (initial_datum x.declared) is.initial)
+    (front_of front (data' ++ tail) l1) there in
+    let r2 = all_asked (values_place k) x h (c + size_of front) (reached r1) (omega (arith, few, here, holds))
     (front_of (data' ++ two) (Plain I.Ecall ∷ stack) l3) (reached_holds r1) in
     let g = reached r2 in
     let answer : Services → Base → Answer =
@@ -391,19 +460,10 @@ becomes_comes w code e p q numbers x φ φs c index f known is becomes same l th
     }) in
     let r4 = stack_taken k becomes h h' (c + size_of front + size_of (data' ++ two) + 1) (reached r3)
     (omega (arith, few)) (rest_of (Plain I.Ecall) stack l4) (reached_holds r3) in
-    let all = reach_moved (omega (arith, size, n0, n1, n2, n3, n4, n5)) (omega (arith, size, n0, n1, n2, n3, n4, n5))
+    let all = reach_moved (omega (arith, size, n0, n1, n2, n3, n4, n5, n6))
+    (omega (arith, size, n0, n1, n2, n3, n4, n5, n6))
     (reach_then r1 (reach_then r2 (reach_then r3 r4))) in
     reach_map _ all (λ b y o. in_known h' new.1.parts o)
-  where
-    split_code :
-        (name num data' tail : Code) →
-        name ++ (num ++ (small a2 0 ∷ (data' ++ tail))) ≡ (name ++ (num ++ (small a2 0 ∷ []))) ++ (data' ++ tail)
-    split_code name num data' tail =
-        ap (λ u. name ++ u) (sym (append_assoc num (small a2 0 ∷ []) (data' ++ tail)))
-        ∙ sym (append_assoc name (num ++ (small a2 0 ∷ [])) (data' ++ tail))
-
-    split_data : (data' two rest : Code) → data' ++ (two ++ rest) ≡ (data' ++ two) ++ rest
-    split_data data' two rest = sym (append_assoc data' two rest)
 
 -- nothing is told of its name
 pub made_becomes :
@@ -422,6 +482,42 @@ made_becomes {w} {x = x} {φ = φ} k =
           };
     }
 
+pub started_comes :
+    (w : Surroundings) (code : List Instr) (e : Environment) (p : Point) (numbers : ℕ → ℕ) (x : Declared) (φ : Layer)
+    (φs : List Layer) (c index : ℕ) (f : Family) → Stands w p × IsImage w code p → MayBeMade w code p x φ φs →
+    (table_number e x.declared ≡ x.number) × (e.parts ≡ w.parts) →
+    Linked w.links code index (constant_made e x.place x.declared) → AreIn w p numbers index f →
+    Reach code c f (services_of p) (c + size_of (constant_made e x.place x.declared))
+    (services_of (with_made (made_of w.parts φ x) p))
+    (λ b y. IsIn w (with_made (made_of w.parts φ x) p) numbers
+    (index + size_of (constant_made e x.place x.declared)) b y)
+started_comes w code e p numbers x φ φs c index f known is same l there =
+    becomes_comes w code e p (with_made (made_of w.parts φ x) p) numbers x φ φs c index f known is
+    (made_becomes (record { stands = known.0; image = known.1; is = is })) same l there
+
+-- one to which nothing is given
+pub without_initial :
+    (w : Surroundings) (code : List Instr) (p : Point) (x : Declared) (φ : Layer) (φs : List Layer) →
+    IsDeclared w p x φ φs → MayBeMade w code p x φ φs
+without_initial w code p x φ φs h =
+    record {
+      newest = h.newest;
+      here = h.here;
+      holds = h.holds;
+      size = h.size;
+      fits = h.fits;
+      even = h.even;
+      low = h.low;
+      shape = h.shape;
+      number = h.number;
+      initial = bare_begins p.places.constants code w.links.data' x.declared h.initial h.none;
+      plain = h.plain;
+      fixed = h.fixed;
+      values = h.values;
+      valued = h.valued;
+      limit = h.limit;
+    }
+
 pub variable_comes :
     (w : Surroundings) (code : List Instr) (e : Environment) (p : Point) (numbers : ℕ → ℕ) (x : Declared) (φ : Layer)
     (φs : List Layer) (c index : ℕ) (f : Family) → Stands w p × IsImage w code p → IsDeclared w p x φ φs →
@@ -432,15 +528,27 @@ pub variable_comes :
     (λ b y. IsIn w (with_made (made_of w.parts φ x) p) numbers
     (index + size_of (constant_made e x.place x.declared)) b y)
 variable_comes w code e p numbers x φ φs c index f known is same l there =
-    becomes_comes w code e p (with_made (made_of w.parts φ x) p) numbers x φ φs c index f known is
-    (made_becomes (record { stands = known.0; image = known.1; is = is })) same l there
+    started_comes w code e p numbers x φ φs c index f known (without_initial w code p x φ φs is) same l there
 
 -- ---- what it means
+
+-- by the limit alone
+limit_means :
+    (w : Surroundings) (p : Point) (x : Declared) (φ : Layer) (acts : ℕ) →
+    nat_le (automatic_in_use p.state.living + footprint_of (generation_for x)) most_automatic ≡ true →
+    K.variable_made x.index (generation_for x) acts p.state ≡ Normal tt (with_made (made_of w.parts φ x) p).state
+unfolding K.variable_made looked choose stored ◌>>=◌
+limit_means w p x φ acts limit =
+    ap (λ q. cond q (Normal tt (with_variable x.index (generation_for x) p.state))
+    (finish (E.Limit L.Automatic) acts p.state)) limit
+
+pub started_means :
+    (w : Surroundings) (code : List Instr) (p : Point) (x : Declared) (φ : Layer) (φs : List Layer) (acts : ℕ) →
+    MayBeMade w code p x φ φs →
+    K.variable_made x.index (generation_for x) acts p.state ≡ Normal tt (with_made (made_of w.parts φ x) p).state
+started_means w code p x φ φs acts is = limit_means w p x φ acts is.limit
 
 pub variable_means :
     (w : Surroundings) (p : Point) (x : Declared) (φ : Layer) (φs : List Layer) (acts : ℕ) → IsDeclared w p x φ φs →
     K.variable_made x.index (generation_for x) acts p.state ≡ Normal tt (with_made (made_of w.parts φ x) p).state
-unfolding K.variable_made looked choose stored ◌>>=◌
-variable_means w p x φ φs acts is =
-    ap (λ q. cond q (Normal tt (with_variable x.index (generation_for x) p.state))
-    (finish (E.Limit L.Automatic) acts p.state)) is.limit
+variable_means w p x φ φs acts is = limit_means w p x φ acts is.limit

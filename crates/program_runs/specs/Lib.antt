@@ -5,6 +5,7 @@ pub mod Constants
 pub mod Calls
 pub mod Programs
 pub mod Variables
+pub mod Initial
 pub mod Names
 pub mod Rows
 pub mod VariableRows

@@ -13,6 +13,7 @@ use Rattle.run_steps.specs.Items.{Linked}
 use Rattle.run_steps.specs.Reach.{Family, Reach}
 use Rattle.block_runs.specs.Machines.{AreIn, IsImage, IsIn}
 use Rattle.program_runs.specs.Calls.{AreMade, Callee}
+use Rattle.program_runs.specs.Initial.{MayBeMade}
 use Rattle.program_runs.specs.Variables.{Declared, IsDeclared, IsOnly, made_of, newest_made}
 
 -- the name of a variable with a serial number of two words, at so many bytes from the frame's address
@@ -42,6 +43,20 @@ pub record NamesTold : Type 0 where
   pub stands :
       (w : Surroundings) (code : List Instr) (p : Point) (x : Declared) (φ : Layer) (φs : List Layer) →
       Stands w p × IsImage w code p → IsDeclared w p x φ φs →
+      Stands w (named_point w.parts φ x p) × IsImage w code (named_point w.parts φ x p)
+  -- with INITIAL values, too
+  pub begun_comes :
+      (w : Surroundings) (code : List Instr) (e : Environment) (p : Point) (numbers : ℕ → ℕ) (x : Declared) (φ : Layer)
+      (φs : List Layer) (credits index : ℕ) (f : Family) → Stands w p × IsImage w code p →
+      MayBeMade w code p x φ φs → p.state.serials + 1 < 2 ^ 64 →
+      (table_number e x.declared ≡ x.number) × (e.parts ≡ w.parts) →
+      Linked w.links code index (constant_made e x.place x.declared) → AreIn w p numbers index f →
+      Reach code credits f (services_of p) (credits + size_of (constant_made e x.place x.declared))
+      (services_of (named_point w.parts φ x p))
+      (λ b y. IsIn w (named_point w.parts φ x p) numbers (index + size_of (constant_made e x.place x.declared)) b y)
+  pub begun_stands :
+      (w : Surroundings) (code : List Instr) (p : Point) (x : Declared) (φ : Layer) (φs : List Layer) →
+      Stands w p × IsImage w code p → MayBeMade w code p x φ φs →
       Stands w (named_point w.parts φ x p) × IsImage w code (named_point w.parts φ x p)
 
 -- ---- a procedure with one variable

@@ -2,6 +2,7 @@
 
 ghost use Rattle.program_runs.specs.Calls.{CallsDo, NoneMade, ProceduresRun};
 ghost use Rattle.program_runs.specs.Constants.{ConstantsStand};
+ghost use Rattle.program_runs.specs.Initial.{InitialRead, VariablesBegin};
 ghost use Rattle.program_runs.specs.Names.{NamesTold, OneNamed};
 ghost use Rattle.program_runs.specs.Procedures.{ProceduresBegin};
 ghost use Rattle.program_runs.specs.Programs.{ProgramsRun};
@@ -72,6 +73,16 @@ pub fn program_ran()
 /// A variable of constant size is made in the newest block, as its code and the storage machine do it.
 pub fn variables_made()
     ensures { VariablesMade }
+{}
+
+/// Service 7 reads the INITIAL values that are told of static data at the place that a variable's code hands over.
+pub fn initial_read()
+    ensures { InitialRead }
+{}
+
+/// A variable with INITIAL values is made so, too.
+pub fn variables_begin()
+    ensures { VariablesBegin }
 {}
 
 /// A procedure with one variable makes it where its block begins.

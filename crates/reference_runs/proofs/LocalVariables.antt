@@ -25,7 +25,7 @@ use Rattle.run_steps.specs.Reach.{Reach}
 use Rattle.block_runs.specs.Machines.{IsImage, IsIn}
 use Rattle.program_runs.specs.Statements.{Block, IsAmong, IsBegun}
 use Rattle.program_runs.specs.Variables.{Declared, IsDeclared, first_made, generation_for, made_of}
-use Rattle.program_runs.proofs.Variables.{becomes_comes, made_becomes, variable_means}
+use Rattle.program_runs.proofs.Variables.{becomes_comes, made_becomes, variable_means, without_initial}
 use Rattle.expression_runs.specs.Variables.{IsNumber, Spot}
 use Rattle.expression_runs.proofs.OwnVariables.{own_number}
 use Rattle.reference_runs.specs.LocalVariables.{IsLocal, IsLocalFirst, IsOwn}
@@ -67,6 +67,7 @@ pub local_made :
 local_made w code c numbers φ φs a as' p d h active =
     let m = made_of w.parts φ d in
     let q = with_made m p in
+    let may = without_initial w code p d φ φs h.declared in
     let here : c.made p ≡ q =
     ap (λ (made : Point → Point). made p) h.made ∙ ap (λ ls. first_made w.parts d ls p) h.declared.newest in
     let each = h.few in
@@ -82,14 +83,14 @@ local_made w code c numbers φ φs a as' p d h active =
     ∙ variable_means w p d φ φs w.acts h.declared in
     record {
       stands = λ known. subst (λ u. Stands w u × IsImage w code u) (sym here)
-          (made_becomes (record { stands = known.0; image = known.1; is = h.declared })).stands;
+          (made_becomes (record { stands = known.0; image = known.1; is = may })).stands;
       comes = λ credits f known l there.
           subst (λ u. Reach code credits f (services_of p) (credits + size_of c.procedure.variables) (services_of u)
           (λ b z. IsIn w u numbers (act_index c) b z)) (sym here)
           (subst (λ xs. Reach code credits f (services_of p) (credits + size_of xs) (services_of q)
           (λ b z. IsIn w q numbers (variables_index c + size_of xs) b z)) (sym h.code)
-          (becomes_comes w code c.environment p q numbers d φ φs credits (variables_index c) f known h.declared
-          (made_becomes (record { stands = known.0; image = known.1; is = h.declared })) (h.table, h.parts)
+          (becomes_comes w code c.environment p q numbers d φ φs credits (variables_index c) f known may
+          (made_becomes (record { stands = known.0; image = known.1; is = may })) (h.table, h.parts)
           (subst (Linked w.links code (variables_index c)) h.code l) there));
       means = block_means around' c.procedure.head c.procedure.head.kind h.parameter d.declared w.acts p.state q.state
           h.kind h.variables

@@ -33,6 +33,6 @@ error_ends X k is entries p numbers c index code' f o line small' l paid there =
     (record { reserved_stay = λ y u. refl; known_stay = λ b y u q. q; set = λ y u. refl }) l
     (λ b. known_in h (there b).0 ((there b).1, tt)) in
     onward closed r (λ g at.
-    error_comes closed is.routines (c + 2) g k.around code' h (o.stands, o.image) small'
+    error_comes closed is.routines (c + 2) g k.around code' h (o.stands, o.image) small'.1
     (omega (arith, paid, most), is.acts) line
     (subst (λ xs. IsSystem (force xs C.Error)) (sym o.later.activations) is.error) at)

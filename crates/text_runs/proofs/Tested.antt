@@ -1,6 +1,7 @@
 -- A service whose status is tested: it leaves a result behind it, or ERROR comes to what it means.
 use Rattle.std.proofs.Common.{◌≡◌, ℕ, ◌+◌, ◌^◌, ◌<◌, ◌≤◌, List, [], ◌∷◌, Option, Some, None, false, refl, subst}
 use Rattle.std.proofs.Common.{arith}
+use Rattle.std.proofs.lemmas.Bool.Decides.{nat_tests}
 use Rattle.std.specs.Prelude.{◌==◌}
 use Rattle.rv_meaning.specs.declared.instr.Instr.{Instr}
 use Rattle.pli_meaning.specs.Control.{Label, give}
@@ -75,6 +76,9 @@ pub record IsPlace (k : Place) (x y z : Base → ℕ) (h : frame_of k.setting.bl
       At b k.index (Known (point_ground k.setting.block.call.surroundings k.point h) (services_of k.point) k.numbers
       (λ j. 0) (three x y z) b) (k.family b)
 
+positive : (n : ℕ) → (n == 0) ≡ false → 0 < n
+positive n e = grind (arith, nat_tests)
+
 outcome_comes :
     {X : Type 0} (k : Place) (t : Tested X) {aims : Aims X} → Closed k.setting.block.call.code aims →
     aims.limits ≡ limits_of k.setting.block.call.surroundings →
@@ -125,7 +129,8 @@ outcome_comes {X} k t {aims} closed same h is asks' error None e jumps goal =
     (λ c f v' r s q. absurd q)
     jumps
     (λ c f v' r s q. absurd q)
-    (error k.entries p k.numbers (k.credits + 2 + 1) (k.index + 2 + 1) t.code g2 is.among is.line asks'.coded
+    (error k.entries p k.numbers (k.credits + 2 + 1) (k.index + 2 + 1) t.code g2 is.among is.line
+    (positive t.code asks'.some, asks'.coded)
     (rest_of _ (JumpTo RaiseError ∷ []) l1) (omega (arith, paid))
     (λ b. (in_known h is.among.image.parts (at2 b), (at2 b).holds.regs.1.0)))))
 outcome_comes {X} k t {aims} closed same h is asks' error (Some r) e jumps goal =

@@ -106,7 +106,7 @@ error_aims X k acts =
 abbrev pub ErrorComes : Type 0 → Setting → Type 0
 ErrorComes X k =
     (entries : List Entry) (p : Point) (numbers : ℕ → ℕ) (credits index code : ℕ) (f : Family) →
-    IsAmong (waiting entries k.block) numbers p → p.control.line ≡ k.around.line → code < 2 ^ 16 →
+    IsAmong (waiting entries k.block) numbers p → p.control.line ≡ k.around.line → (0 < code) × (code < 2 ^ 16) →
     Linked k.block.call.surroundings.links k.block.call.code index (JumpTo RaiseError ∷ []) →
     credits + k.most ≤ cost k.block.call.code →
     ((b : Base) → IsIn k.block.call.surroundings p numbers index b (f b) × (value (f b).machine a1 ≡ code)) →

@@ -2,14 +2,15 @@
 -- to its end, whatever units it has by then.
 use Rattle.std.proofs.Common.{◌≡◌, ◌⊎◌, inl, inr, ℕ, zero, suc, ◌+◌, ◌*◌, ◌^◌, ◌<◌, ◌≤◌, List, [], ◌++◌, length}
 use Rattle.std.proofs.Common.{Bool, Option, Some, None, true, false, refl, sym, ap, ◌∙◌, subst, arith}
-use Rattle.std.specs.Prelude.{◌&&◌, not}
-use Rattle.std.proofs.lemmas.Bool.{and_parts, ltb-true, or_cases, or_left}
+use Rattle.std.specs.Prelude.{◌&&◌, ◌==◌, not}
+use Rattle.std.proofs.lemmas.Bool.{and_parts, eq-eqb, ltb-true, or_cases, or_left}
 use Rattle.std.proofs.lemmas.List.Folds.{list_any-append}
 use Rattle.pli_language.specs.Keywords.{same_bytes}
 use Rattle.pli_typing.specs.TypedTree as Y
 use Rattle.pli_meaning.specs.Control.{Flow, Label, is_among}
 use Rattle.pli_meaning.specs.Executing.{labels_in, list}
 use Rattle.pli_meaning.specs.StorageState.{Activation, State, ancestor, height_of, most_activations, newest_height}
+use Rattle.pli_meaning.specs.StorageState.{oncode_of}
 use Rattle.pli_coding.specs.Assembly.{size_of}
 use Rattle.pli_coding.specs.Environments.{none_taken}
 use Rattle.pli_coding.specs.Images.{linked_code}
@@ -59,6 +60,7 @@ use Rattle.phase_runs.proofs.Groups.{group_through}
 use Rattle.phase_runs.proofs.Lists.{list_through}
 use Rattle.phase_runs.proofs.Loops.{loop_through}
 use Rattle.phase_runs.proofs.Units.{on_through, past_begun, phases_change, revert_through, system_through}
+use Rattle.unit_numbers.specs.Calls.{has_jumps, is_jumped_to}
 use Rattle.unit_numbers.specs.Programs.{are_steps, is_plain_step, is_step, is_step_test}
 use Rattle.unit_numbers.specs.Units.{is_unit}
 use Rattle.unit_numbers.proofs.Established.{list_placed, ons_placed, start_of}
@@ -70,7 +72,7 @@ use Rattle.unit_numbers.proofs.Mains.{placed}
 use Rattle.unit_numbers.proofs.Past.{alone_parent, main_alone, main_past}
 use Rattle.unit_numbers.proofs.Places.{all_placed_in, listed_at, listed_back, listed_front, placed_in}
 use Rattle.unit_numbers.proofs.Puts.{main_told}
-use Rattle.unit_numbers.proofs.Raises.{Knows, knows_of}
+use Rattle.unit_numbers.proofs.Raises.{Knows, error_at, knows_of}
 use Rattle.unit_numbers.proofs.Scenes.{EachBody, IsAbove, IsAt, IsInside, Part, at_told, block_of, rises_above}
 use Rattle.unit_numbers.proofs.Scenes.{rises_home, scope_of, told_outer}
 use Rattle.unit_numbers.proofs.Units.{unit_is}
@@ -101,6 +103,7 @@ ready m h ih more blocks c o os a own few clear home knows told =
       arrays = λ may. a.arrays;
       narrows = λ may. a.narrows;
       parameters = λ x is. absurd (cc is);
+      codes = λ may. a.code;
       based = λ may. absurd (cc may);
       calls = knows.calls;
       jumps = knows.jumps;
@@ -155,20 +158,28 @@ each_body once {program} m (suc more) h blocks c o os ih e above =
     let waiting = e.part.waiting in
     let each = each_body once m more in
     let rises = rises_above m h (block_of m h o os) own above in
-    let inner : c.unit ≡ true → IsInside m c o × IsAbove m h os = λ unit. (e.inner unit, above) in
-    let knows = knows_of once m h ih more blocks c o os a inner each own rises in
+    let inner : c.unit ≡ true → IsInside m c o × (has_jumps (list_of m) ≡ true → IsAbove m h os) =
+    λ unit. (e.inner unit, above) in
+    let knows = knows_of once m h ih more blocks c o os a inner (λ free. above) each own rises in
     let told : (waits : ℕ → Option ℕ) →
     Knows program (scope_of m c) (telling waits a.free.layer a.free.below (block_of m h o os)) own = λ waits.
     let o' = told_outer o waits a.free.layer a.free.below in
     knows_of once m h ih more blocks c o' os (at_told a waits)
-    (λ unit. let i = e.inner unit in (record { caller = i.caller; level = i.level; block = i.block }, above)) each own
+    (λ unit. let i = e.inner unit in (record { caller = i.caller; level = i.level; block = i.block }, above))
+    (λ free. above) each own
     (rises_above m h (block_of m h o' os) own above) in
     let few : a.free.layer.words ≤ most_set = omega (arith, words, waiting) in
-    body_does (scope_of m c) c.valued (block_of m h o os) c.body c.index (most_for program) left_over
-    (ready m h ih (suc more) blocks c o os a own few e.clear e.home knows told) e.part.statements e.part.needs
-    (frame_left m h ih (suc more) blocks c o os a own few e.clear e.home knows told (statements_set c.body)
-    (omega (arith, words)))
-    e.part.placed
+    record {
+      each = body_does (scope_of m c) c.valued (block_of m h o os) c.body c.index (most_for program) left_over
+          (ready m h ih (suc more) blocks c o os a own few e.clear e.home knows told) e.part.statements e.part.needs
+          (frame_left m h ih (suc more) blocks c o os a own few e.clear e.home knows told (statements_set c.body)
+          (omega (arith, words)))
+          e.part.placed;
+      error = λ line r.
+          error_at (Unit {0}) once m h ih more blocks c o os a each [] (rises_above m h (block_of m h o os) [] above) 0
+          []
+          (λ label among. among) line r;
+    }
 
 -- ---- the main procedure's block
 
@@ -239,6 +250,7 @@ main_at {program} m h ih writes =
       main_arrays = ih.arrays;
       main_narrows = ih.narrows;
       idle = ih.begun.resumes.idle;
+      code = subst (λ as'. oncode_of as' < 2 ^ 16) (sym one.is) (omega arith);
       told = record { code = of.code; links = of.links; constants = of.constants };
       free = ih.free;
       tabled = table_later program ih.begun.remains
@@ -271,6 +283,13 @@ main_home once {program} m h ih writes =
 
 -- ---- its statements
 
+-- units jump to the labels of its own list
+main_jumped :
+    {program : Y.Program} (m : Main program) → has_jumps (list_of m) ≡ true →
+    is_jumped_to m.head false (list_of m) ≡ true
+main_jumped m jumps =
+    ap (λ q. (m.head.level == 0) && q) jumps ∙ ap (λ q. q && true) (eq-eqb m.head.level 0 (level_of m))
+
 main_knows :
     MarkedOnce → {program : Y.Program} (m : Main program) (h : Home) → IsHome' m h → (more : ℕ) → h.acts ≡ suc more →
     (writes : Bool) →
@@ -278,7 +297,9 @@ main_knows :
 main_knows once m h ih more same writes =
     knows_of once m h ih more most_activations (main_part m writes) (main_outer m h) []
     (subst (λ n. IsAt m h n most_activations (main_part m writes) (main_outer m h) []) same (main_at m h ih writes))
-    (λ unit. absurd (cc unit)) (each_body once m more) (labels_in (list_of m)) (rises_home m h)
+    (λ unit. absurd (cc unit))
+    (λ free jumps. absurd (cc (sym (main_jumped m jumps) ∙ free))) (each_body once m more) (labels_in (list_of m))
+    (rises_home m h)
 
 -- what a form of statement is asked for where it stands among its statements, with units that it has by then
 record Stands' {program : Y.Program} (m : Main program) (input : List ℕ) (more : ℕ) (past : Past) (writes : Bool)

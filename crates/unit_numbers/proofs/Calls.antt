@@ -5,20 +5,20 @@ use Rattle.std.proofs.Common.{Bool, None, Some, true, false, refl, sym, ap, subs
 use Rattle.std.specs.Prelude.{nat_le, nat_lt}
 use Rattle.std.proofs.lemmas.Bool.{leb-true}
 use Rattle.std.proofs.lemmas.Bool.Decides.{nat_tests}
-use Rattle.pli_language.specs.declared.condition.Condition.TheVariants as C
 use Rattle.pli_typing.specs.TypedTree as Y
 use Rattle.pli_meaning.specs.Control.{Label}
 use Rattle.pli_meaning.specs.DeclaredShapes.{procedure_numbered, variables_of_block}
 use Rattle.pli_meaning.specs.Executing.{entered}
-use Rattle.pli_meaning.specs.StorageState.{automatic_in_use, force, most_activations, most_automatic}
+use Rattle.pli_meaning.specs.StorageState.{automatic_in_use, most_activations, most_automatic}
 use Rattle.pli_coding.specs.Allocating.{act_code}
 use Rattle.pli_coding.specs.Assembly.{size_of}
 use Rattle.pli_coding.specs.Images.{linked_code}
-use Rattle.pli_coding.specs.Statements.{stmt_code}
+use Rattle.pli_coding.specs.Environments.{none_taken}
+use Rattle.pli_coding.specs.Procedures.{no_value}
+use Rattle.pli_coding.specs.Statements.{stmt_code, stmts_code}
 use Rattle.code_marks.specs.CodeMarks.{MarkedOnce}
 use Rattle.activation_relation.specs.Frames.{lower_end, upper_top}
 use Rattle.activation_relation.specs.Layers.{Point}
-use Rattle.activation_relation.specs.ServiceLaws.{IsSystem}
 use Rattle.run_steps.specs.Items.{Linked}
 use Rattle.run_steps.proofs.Jumps.{back_of}
 use Rattle.run_steps.proofs.Linking.{size_append}
@@ -36,7 +36,8 @@ use Rattle.expression_runs.specs.Assignments.{setting_around}
 use Rattle.expression_runs.specs.Laws as L
 use Rattle.function_runs.specs.FunctionCalls.{called_from}
 use Rattle.jump_runs.specs.Functions.{function_in}
-use Rattle.jump_runs.proofs.FunctionLists.{each_ends, system_ends}
+use Rattle.jump_runs.proofs.FunctionLists.{each_ends}
+use Rattle.error_units.proofs.Conditions.{end_by}
 use Rattle.nested_calls.specs.NestedCalls.{HasFrame, IsNestedCall}
 use Rattle.nested_calls.specs.NestedFunctions.{IsNestedFunction}
 use Rattle.nested_calls.proofs.DeepCalls.{deep_call_ends}
@@ -47,15 +48,15 @@ use Rattle.number_runs.specs.Knowledge.{Includes, KnowsCalls, call_number, call_
 use Rattle.number_runs.specs.Variables.{bytes_of}
 use Rattle.number_headlines.proofs.Mains.{result_of}
 use Rattle.unit_numbers.proofs.Callees.{callee_of, site_of}
-use Rattle.unit_numbers.proofs.Entered.{called_entered, called_part, forced_there}
-use Rattle.unit_numbers.proofs.Established.{error_system}
+use Rattle.unit_numbers.proofs.Entered.{called_entered, called_part}
 use Rattle.unit_numbers.proofs.Full.{are_full}
-use Rattle.unit_numbers.proofs.Homes.{Home, IsHome', home_block}
+use Rattle.unit_numbers.proofs.Homes.{Home, IsHome'}
 use Rattle.unit_numbers.proofs.Inner.{Inner, inner_is}
 use Rattle.unit_numbers.proofs.Mains.{Main, most_for, run_for}
 use Rattle.unit_numbers.proofs.Named.{Moment, are_made, bare_block, entered_at, inner_set}
 use Rattle.unit_numbers.proofs.NestedJumps.{nested_jump_call_does, nested_jump_function_does}
 use Rattle.unit_numbers.proofs.Raised.{around_for, entry_low}
+use Rattle.unit_numbers.proofs.Routines.{error_routines}
 use Rattle.unit_numbers.proofs.Scenes.{EachBody, IsAt, Part, Rises, block_of, scope_of}
 
 -- the frame of what is called has room
@@ -142,8 +143,8 @@ call_by once {program} m h ih more b part out os a each own rises words set labe
     (λ p numbers o b'.
     let r = entered_at i k call p numbers in
     let os' = as_outer k labels ∷ os in
-    each h b (called_part i) (as_outer (bare_block m h false more r) []) os' ih
-    (called_entered once m (record { at = a; among = o }) i call labels pass shallow b') (rises labels includes))
+    (each h b (called_part i) (as_outer (bare_block m h false more r) []) os' ih
+    (called_entered once m (record { at = a; among = o }) i call labels pass shallow b') (rises labels includes)).each)
     a.begun)
     (λ e.
     full_call_ends words k c level line index left_over more is shallow
@@ -151,13 +152,6 @@ call_by once {program} m h ih more b part out os a each own rises words set labe
     (λ deep. deep_call_ends words k c level line index left_over more is deep a.begun labels))
 
 -- ---- functions
-
--- no unit is in force for ERROR
-error_there :
-    MarkedOnce → {program : Y.Program} (m : Main program) (h : Home) → IsHome' m h → (as' : _) →
-    force as' C.Error ≡ force (home_block m h).first.state.activations C.Error → IsSystem (force as' C.Error)
-error_there once m h ih as' same =
-    subst IsSystem (sym same) (error_system once m h.input h.acts h.past ih.known)
 
 value_by :
     MarkedOnce → {program : Y.Program} (m : Main program) (h : Home) → IsHome' m h → (more b : ℕ) (part : Part)
@@ -208,15 +202,18 @@ value_by once {program} m h ih more b part out os a each own rises words set lab
     let r = entered_at i k call p numbers in
     let os' = as_outer k labels ∷ os in
     let moment : Moment m h (suc more) (suc b) part out os p numbers = record { at = a; among = o } in
+    let goes = each h b (called_part i) (as_outer (bare_block m h true more r) []) os' ih
+    (called_entered once m moment i call labels pass shallow list'.begun) (rises labels includes) in
+    let routines = error_routines once program m.loadable in
+    let here = list'.linked.inside in
+    let n0 = size_append (stmts_code (environment_for program i.head) none_taken i.body) (no_value i.head.line) in
     each_ends (function_in z (called_from c call) p numbers) i.body (body_for program i.head i.body) list'
     (are_marked (links_for program) (linked_code (code_for program)) (body_for program i.head i.body)
     (environment_for program i.head) i.body
     (body_placed once program i.head i.body (Some (Y.FixedLeaf 31)) m.loadable i.is))
-    (each h b (called_part i) (as_outer (bare_block m h true more r) []) os' ih
-    (called_entered once m moment i call labels pass shallow list'.begun) (rises labels includes))
-    (system_ends (function_in z (called_from c call) p numbers) i.body (body_for program i.head i.body) [] list'
-    (error_there once m h ih (bare_block m h true more r).first.state.activations
-    (forced_there m moment i call C.Error)))))
+    goes.each
+    (end_by (function_in z (called_from c call) p numbers) i.body (body_for program i.head i.body) (most_for program)
+    list' routines (goes.error i.head.line routines) (omega (arith, here, n0)))))
     (λ e.
     full_function_ends z c level more is shallow
     (λ call p numbers o. are_full m (record { at = a; among = o }) i call ih.few (past used e))))

@@ -21,42 +21,10 @@ use Rattle.block_runs.proofs.CallStatements.{comes_map}
 use Rattle.block_runs.proofs.PointGrounds.{in_known, known_in, point_frame}
 use Rattle.expression_runs.specs.Values.{Setting, behind, word_aims}
 use Rattle.operator_runs.specs.Divisors.{ZeroDivideComes}
+use Rattle.error_units.proofs.Conditions.{divide_by}
 use Rattle.unit_runs.specs.Raised.{IsRaised, IsRaisedAt, Standing, UnitDoes, raise_aims}
 use Rattle.unit_runs.proofs.DeepRaises.{deep_raise_ends}
 use Rattle.unit_runs.proofs.UnitRuns.{RaisesTo, raise_returns}
-
-pub divide_by : (k : Setting) → RaisesTo k C.ZeroDivide zero_divide_code → ZeroDivideComes k
-divide_by k raises p numbers taken c index f o line registers l paid there =
-    let w = k.block.call.surroundings in
-    let raise' = A.raised C.ZeroDivide zero_divide_code in
-    let back = small a0 0 ∷ [] in
-    let y = behind p numbers taken c index zero_divide_raised in
-    let n = size_append raise' back in
-    let wanted = c + size_of raise' in
-    comes_map (raise_aims k p numbers (index + size_of raise') wanted) (word_aims k.block k.labels y 0) refl
-    (R.raised k.around C.ZeroDivide zero_divide_code w.acts p.state)
-    (λ c' f' v' r s q.
-    let h' = point_frame q.among.stands q.among.image in
-    let r1 = constant_piece {t = λ i. 0} {rs = nothing} wanted (reached q.reach) a0 (pos 0) (omega arith)
-    (record { reserved_stay = λ u v. refl; known_stay = λ b u v e. e; set = λ u v. refl }) (back_of raise' back l)
-    (λ b. known_in {t = λ i. 0} {rs = nothing} h' (reached_holds q.reach b) tt) in
-    record {
-      point = q.point;
-      numbers = numbers;
-      among = q.among;
-      since = q.since;
-      line = q.line;
-      stays = λ m less. refl;
-      state = q.state;
-      reach = reach_with y.wanted (omega (arith, n)) (reach_map _ (reach_then q.reach r1)
-          (λ b m e. (
-            subst (λ j. IsIn w q.point numbers j b m) (omega (arith, n)) (in_known h' q.among.image.parts e),
-            e.holds.regs.0,
-          )));
-    })
-    (λ c' f' v' height label s q. q)
-    (λ c' f' v' r s q. absurd q)
-    (raises p numbers c wanted index f o line (front_of raise' back l) (omega (arith, paid, n)) there)
 
 -- whatever the condition of the unit is called
 divide_as :

@@ -1,5 +1,6 @@
 -- A procedure or a function that is called in a block: its variables are made, and what is known there is known of it.
-use Rattle.std.proofs.Common.{◌≡◌, ℕ, suc, ◌+◌, List, [], ◌∷◌, length, Bool, None, Some, true, false, refl, ap, ◌∙◌}
+use Rattle.std.proofs.Common.{◌≡◌, ℕ, suc, ◌+◌, ◌^◌, ◌<◌, List, [], ◌∷◌, length, Bool, None, Some, true, false, refl}
+use Rattle.std.proofs.Common.{sym, ap, ◌∙◌, subst}
 use Rattle.std.proofs.Common.{arith}
 use Rattle.std.specs.Prelude.{cond, nat_lt, ◌==◌}
 use Rattle.std.proofs.lemmas.Bool.{ltb-true}
@@ -8,7 +9,7 @@ use Rattle.pli_typing.specs.TypedTree as Y
 use Rattle.pli_meaning.specs.Control.{Label}
 use Rattle.pli_meaning.specs.DeclaredShapes.{variables_of_block}
 use Rattle.pli_meaning.specs.StorageState.{Activation, Binding, ancestor, force, height_of, most_activations}
-use Rattle.pli_meaning.specs.StorageState.{newest_height}
+use Rattle.pli_meaning.specs.StorageState.{newest_height, oncode_of}
 use Rattle.pli_meaning.specs.BasicValues.{VariableName}
 use Rattle.pli_meaning.specs.Making.{with_binding}
 use Rattle.pli_meaning.specs.World.{World}
@@ -41,6 +42,7 @@ use Rattle.number_headlines.proofs.Loops.{after_waits, after_words}
 use Rattle.number_headlines.proofs.Mains.{result_of}
 use Rattle.number_headlines.proofs.Running.{free_among, table_later}
 use Rattle.number_headlines.proofs.Tables.{block_plain}
+use Rattle.condition_codes.specs.Codes.{HasCode}
 use Rattle.jump_runs.proofs.Numbers.{alone, leaving, number_leaving}
 use Rattle.unit_numbers.proofs.Arrays.{array_leaving, narrow_leaving}
 use Rattle.unit_numbers.proofs.Callees.{Called, callee_of}
@@ -100,6 +102,16 @@ pub forced_there :
 forced_there m o {v = v} i call d =
     ap (λ as'. force as' d) (called_above v m o i call).is ∙ ap (λ as'. force as' d) o.among.later.activations
     ∙ o.at.forced d
+
+-- ONCODE is there what it is where it is called
+code_there :
+    {program : Y.Program} (m : Main program) {h : Home} {more blocks : ℕ} {part : Part} {out : Outer}
+    {os : List Outer} {p : Point} {numbers : ℕ → ℕ} (o : Moment m h (suc more) blocks part out os p numbers)
+    {v : Bool} {level number : ℕ} (i : Inner m part.caller v level number) (call : ℕ) →
+    HasCode (bare_block m h v more (entered_at i (block_of m h out os) call p numbers))
+code_there m o {v = v} i call =
+    subst (λ as'. oncode_of as' < 2 ^ 16) (sym (called_above v m o i call).is)
+    (subst (λ as'. oncode_of as' < 2 ^ 16) (sym o.among.later.activations) o.at.code)
 
 ancestor_above :
     (a : Activation) (as' : List Activation) (level : ℕ) → (a.level == level) ≡ false →
@@ -285,6 +297,7 @@ called_entered once {program} m {h} {more} {b} {part} {out} {os} {p} {numbers} o
             (outer_narrow_by v m o i call pass bare x (type_known (main_scope m false) x) (omega (arith, low))
             (o.at.main_narrows x is));
         idle = made_idle φ xs start;
+        code = code_there m o i call;
         told = called_of_program program k (whole_block m h v more r os') numbers o.at.told o.among refl refl b';
         free = record {
           layer = layer_after image_parts serial φ xs;

@@ -4,7 +4,6 @@ use Rattle.std.proofs.Common.{◌≡◌, ◌⊎◌, inl, inr, ℕ, List, [], ◌
 use Rattle.std.specs.Prelude.{not}
 use Rattle.std.specs.List.{list_any}
 use Rattle.pli_language.specs.declared.condition.Condition.{Condition}
-use Rattle.pli_language.specs.declared.condition.Condition.TheVariants as C
 use Rattle.pli_typing.specs.TypedTree as Y
 use Rattle.pli_meaning.specs.Executing.{labels_in}
 use Rattle.pli_meaning.specs.StorageState.{Activation, force, same_condition}
@@ -21,7 +20,6 @@ use Rattle.unit_numbers.proofs.Forces.{Forced, Found, force_own}
 use Rattle.unit_numbers.proofs.Mains.{Alone, Main, block_for, list_of, ons_of, placed, units_for}
 use Rattle.unit_numbers.proofs.Past.{main_alone, main_past}
 use Rattle.unit_numbers.proofs.Places.{IsPlaced, all_heads_in, all_on_placed, listed_at, placed_by, unit_listed}
-use Rattle.unit_numbers.proofs.Units.{not_error, unit_is}
 
 abbrev pub start_of : {program : Y.Program} → Main program → ℕ
 start_of {program} m = body_for program m.head m.body
@@ -97,20 +95,7 @@ in_force once {program} m input acts past known c =
           forced = subst (λ xs. Forced (force xs c) n.unit) (sym a.is) n.forced;
         })
 
--- none is for ERROR
-pub error_system :
-    MarkedOnce → {program : Y.Program} (m : Main program) (input : List ℕ) (acts : ℕ) (past : Past) →
-    AreBy (ons_of m) past → IsSystem (force (main_past m input acts past).first.state.activations C.Error)
-error_system once {program} m input acts past known = by (in_force once m input acts past known C.Error)
-  where
-    by :
-        InForce m input acts past C.Error →
-        IsSystem (force (main_past m input acts past).first.state.activations C.Error)
-    by (inl system) = system
-    by (inr n) =
-        absurd (not_error n.condition (unit_is program m.called m.head (list_of m) n.unit n.placed.is).condition)
-
--- nor for a condition for which the list has none
+-- none for a condition for which the list has none
 pub none_system :
     MarkedOnce → {program : Y.Program} (m : Main program) (input : List ℕ) (acts : ℕ) (past : Past) →
     AreBy (ons_of m) past → (c : Condition) → not (has_unit c (list_of m)) ≡ true →

@@ -1,5 +1,5 @@
 -- What is called where its variables pass the limit on what is AUTOMATIC: making them ends the run.
-use Rattle.std.proofs.Common.{◌≡◌, ℕ, suc, ◌+◌, ◌^◌, ◌<◌, List, length, Bool, refl, ap, ◌∙◌, subst, arith}
+use Rattle.std.proofs.Common.{◌≡◌, ℕ, suc, ◌+◌, ◌^◌, ◌<◌, List, [], length, Bool, refl, ap, ◌∙◌, subst, arith}
 use Rattle.pli_typing.specs.TypedTree as Y
 use Rattle.pli_meaning.specs.DeclaredShapes.{variables_of_block}
 use Rattle.pli_meaning.specs.Executing as M
@@ -22,10 +22,11 @@ use Rattle.program_runs.specs.Statements.{Outer}
 use Rattle.nested_calls.specs.FullVariables.{AreFull}
 use Rattle.number_runs.specs.Variables.{bytes_of}
 use Rattle.number_runs.proofs.Words.{places_are, words_code}
+use Rattle.number_headlines.proofs.Begins.{begins_at, block_begins}
 use Rattle.number_headlines.proofs.FullWords.{words_over}
 use Rattle.number_headlines.proofs.Mains.{result_of}
 use Rattle.number_headlines.proofs.Running.{free_among, table_later}
-use Rattle.number_headlines.proofs.Tables.{block_plain}
+use Rattle.number_headlines.proofs.Tables.{all_known, block_plain}
 use Rattle.unit_numbers.proofs.Callees.{callee_of}
 use Rattle.unit_numbers.proofs.Named.{Moment, entered_at, inner_set}
 use Rattle.unit_numbers.proofs.Homes.{Home, world_of}
@@ -85,6 +86,8 @@ are_full {program} m {h} {more} {b} {part} {out} {os} {p} {numbers} o {v} i call
     let over = words_over w code e around start numbers φ p.control.layers first 0 ds
     (record { parts = refl; acts = few }) plain.plain
     (table_later program o.among.later.remains o.at.tabled i.head)
+    (begins_at program ds p.places.constants (o.among.later.remains.constants ∙ o.at.told.constants)
+    (block_begins program head i.body [] (result_of v) m.memory (all_known program.variables m.plain) i.is))
     (record { activation = _; below = _; active = refl; some = omega arith })
     (record {
       newest = refl;

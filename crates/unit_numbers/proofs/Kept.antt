@@ -13,7 +13,7 @@ use Rattle.program_places.specs.Programs.{procedure_for}
 use Rattle.program_places.proofs.Memory.{first_length}
 use Rattle.program_places.proofs.Starts.{whole_stands}
 use Rattle.program_runs.specs.Starts.{no_numbers}
-use Rattle.variable_runs.proofs.Lists.{all_procedure}
+use Rattle.variable_runs.proofs.Lists.{all_begun}
 use Rattle.pli_headline.specs.Headline.{FitsMemory, Headline, parts}
 use Rattle.block_headlines.proofs.Constants.{constants_stand}
 use Rattle.block_headlines.specs.Headlines.{Layout, UnitHeadlinesKept, UnitsRun}
@@ -53,7 +53,7 @@ units_run once tables {program} m fits =
           m.main
           (first_length (picture_of parts program) m.loadable.fits fits.statics_fit)
           (constants_stand (code_for program) fits) few
-          (all_procedure (surroundings_for m input acts) (linked_code (code_for program)) (main_for m input acts)
+          (all_begun (surroundings_for m input acts) (linked_code (code_for program)) (main_for m input acts)
           (start_for m input acts) no_numbers (words_in (environment_for program m.head)) (main_all m input acts))
           (main_room m input acts);
       body = λ input acts few b. main_ends once m input acts few b;

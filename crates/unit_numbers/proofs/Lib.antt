@@ -9,6 +9,7 @@ pub mod Outer
 pub mod Past
 pub mod Established
 pub mod Puts
+pub mod Routines
 pub mod Divides
 pub mod NestedJumps
 pub mod Homes
@@ -33,3 +34,7 @@ pub mod WrapRows
 pub mod AgainRows
 pub mod ClimbRows
 pub mod TallyRows
+pub mod RescueRows
+pub mod HaltRows
+pub mod TollRows
+pub mod PleadRows

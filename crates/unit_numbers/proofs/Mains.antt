@@ -33,7 +33,7 @@ use Rattle.program_runs.specs.Statements.{Block, IsBegun}
 use Rattle.program_runs.specs.Variables.{Declared, generation_for}
 use Rattle.expression_runs.specs.Variables.{IsNumber, Spot, variable_of}
 use Rattle.pli_headline.specs.Headline.{FitsMemory, parts}
-use Rattle.variable_runs.specs.Lists.{AreAll, all_made, behind_made, layer_after, layer_behind}
+use Rattle.variable_runs.specs.Lists.{AreAllBegun, all_made, behind_made, layer_after, layer_behind}
 use Rattle.well_formed_trees.specs.WellFormed.{HasMain}
 use Rattle.element_runs.specs.Arrays.{IsArray}
 use Rattle.scalar_runs.specs.Scalars.{IsScalar}
@@ -49,6 +49,7 @@ use Rattle.number_headlines.specs.Programs.{are_all_plain, body_of, has_result, 
 use Rattle.number_headlines.specs.Programs.{places_to}
 use Rattle.number_headlines.proofs.Places.{around_is}
 use Rattle.number_headlines.proofs.Mains.{made_for, procedure_is, spare}
+use Rattle.number_headlines.proofs.Begins.{block_begins}
 use Rattle.number_headlines.proofs.Tables.{all_known, block_plain, has_table}
 use Rattle.unit_runs.specs.Establishing as T
 use Rattle.unit_numbers.specs.Programs.{are_apart, are_steps, has_unit_main, is_unit_body}
@@ -232,7 +233,7 @@ main_spare {program} m input acts =
 
 pub main_words :
     {program : Y.Program} (m : Main program) (input : List ℕ) (acts : ℕ) →
-    HasWords (surroundings_for m input acts)
+    HasWords (surroundings_for m input acts) (linked_code (code_for program))
     (main_for m input acts)
     (start_for m input acts) no_numbers
 main_words {program} m input acts =
@@ -242,7 +243,7 @@ main_words {program} m input acts =
     let n = bytes_of (variables_of_block program m.head.number) in
     record {
       kind = kind;
-      code = refl;
+      coded = refl;
       block = refl;
       level = refl;
       program = refl;
@@ -252,6 +253,7 @@ main_words {program} m input acts =
       plain = plain.plain;
       few = plain.few;
       tabled = has_table program m.head (all_known program.variables m.plain);
+      begin = block_begins program m.head m.body [] None m.memory (all_known program.variables m.plain) found;
       room = room_fewer (surroundings_for m input acts) (main_begun m input acts)
           (main_layer m input acts) [] (fixed_size m.head.level 0) n (n + spare) (omega arith)
           (main_spare m input acts);
@@ -259,11 +261,11 @@ main_words {program} m input acts =
 
 pub main_all :
     {program : Y.Program} (m : Main program) (input : List ℕ) (acts : ℕ) →
-    AreAll (surroundings_for m input acts)
+    AreAllBegun (surroundings_for m input acts) (linked_code (code_for program))
     (main_for m input acts)
     (start_for m input acts) no_numbers (words_in (environment_for program m.head))
 main_all {program} m input acts =
-    all_words (surroundings_for m input acts)
+    all_words (surroundings_for m input acts) (linked_code (code_for program))
     (main_for m input acts)
     (start_for m input acts) no_numbers (main_words m input acts)
 

@@ -27,8 +27,8 @@ use Rattle.program_runs.specs.Variables.{Declared}
 use Rattle.expression_runs.specs.Variables.{IsNumber, Spot, variable_of}
 use Rattle.element_runs.specs.Arrays.{IsArray}
 use Rattle.element_runs.proofs.Outer.{outer_array}
-use Rattle.variable_runs.specs.Lists.{AreAll, all_made, behind_made, layer_behind}
-use Rattle.variable_runs.proofs.Lists.{all_procedure}
+use Rattle.variable_runs.specs.Lists.{AreAllBegun, all_made, behind_made, layer_behind}
+use Rattle.variable_runs.proofs.Lists.{all_begun}
 use Rattle.nested_calls.specs.Nested.{IsNested, parent_at}
 use Rattle.nested_calls.specs.NestedVariables.{IsInside}
 use Rattle.nested_calls.proofs.NestedVariables.{function_known, function_nested, function_number, procedure_known}
@@ -44,7 +44,8 @@ use Rattle.number_headlines.specs.Programs.{places_to}
 use Rattle.number_headlines.proofs.Mains.{result_of}
 use Rattle.number_headlines.proofs.Places.{alike_at, around_is, is_around}
 use Rattle.number_headlines.proofs.Running.{free_among, table_later}
-use Rattle.number_headlines.proofs.Tables.{block_plain}
+use Rattle.number_headlines.proofs.Begins.{begins_at, block_begins}
+use Rattle.number_headlines.proofs.Tables.{all_known, block_plain}
 use Rattle.unit_numbers.specs.Calls.{scope_in}
 use Rattle.unit_numbers.proofs.Callees.{Called, called_block, callee_of}
 use Rattle.unit_numbers.proofs.Homes.{Home, world_of}
@@ -146,7 +147,7 @@ pub has_words :
     {p : Point} {numbers : ℕ → ℕ} (o : Moment m h (suc more) (suc b) part out os p numbers)
     {v : Bool} {level number : ℕ} (i : Inner m part.caller v level number) (call : ℕ) →
     DontPass (block_of m h out os) i →
-    HasWords (world_of m h)
+    HasWords (world_of m h) (linked_code (code_for program))
     (callee_of program v more (entered_at i (block_of m h out os) call p numbers)) p
     numbers
 has_words {program} m {h} {more} {b} {part} {out} {os} {p = p} {numbers = numbers} o {v = v} i call pass =
@@ -157,7 +158,7 @@ has_words {program} m {h} {more} {b} {part} {out} {os} {p = p} {numbers = number
     let plain = block_plain program.variables i.head.number m.plain in
     record {
       kind = (known program i.head i.body (result_of v) m.loadable.well_formed i.is).kind;
-      code = refl;
+      coded = refl;
       block = refl;
       level = refl;
       program = refl;
@@ -167,6 +168,9 @@ has_words {program} m {h} {more} {b} {part} {out} {os} {p = p} {numbers = number
       plain = plain.plain;
       few = plain.few;
       tabled = table_later program o.among.later.remains o.at.tabled i.head;
+      begin = begins_at program (variables_of_block program i.head.number) p.places.constants
+          (o.among.later.remains.constants ∙ o.at.told.constants)
+          (block_begins program i.head i.body [] (result_of v) m.memory (all_known program.variables m.plain) i.is);
       room = room_fewer w (begun_at w c p numbers) (layer_for w p numbers c.procedure c.calling) p.control.layers
           (fixed_size i.head.level 0) n (n + 0) (omega arith) (begun_room m o i c refl pass);
     }
@@ -176,11 +180,11 @@ pub has_all :
     {p : Point} {numbers : ℕ → ℕ} (o : Moment m h (suc more) (suc b) part out os p numbers)
     {v : Bool} {level number : ℕ} (i : Inner m part.caller v level number) (call : ℕ) →
     DontPass (block_of m h out os) i →
-    AreAll (world_of m h)
+    AreAllBegun (world_of m h) (linked_code (code_for program))
     (callee_of program v more (entered_at i (block_of m h out os) call p numbers)) p
     numbers (words_in (environment_for program i.head))
 has_all {program} m {h} {more} {part = part} {out = out} {os = os} {p = p} {numbers = numbers} o {v = v} i call pass =
-    all_words (world_of m h)
+    all_words (world_of m h) (linked_code (code_for program))
     (callee_of program v more (entered_at i (block_of m h out os) call p numbers)) p
     numbers (has_words m o i call pass)
 
@@ -193,7 +197,7 @@ pub are_made :
     (callee_of program v more (entered_at i (block_of m h out os) call p numbers)) p
     numbers
 are_made {program} m {h} {more} {part = part} {out = out} {os = os} {p = p} {numbers = numbers} o {v = v} i call pass =
-    all_procedure (world_of m h) (linked_code (code_for program))
+    all_begun (world_of m h) (linked_code (code_for program))
     (callee_of program v more (entered_at i (block_of m h out os) call p numbers)) p
     numbers (words_in (environment_for program i.head)) (has_all m o i call pass)
 

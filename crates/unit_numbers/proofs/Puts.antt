@@ -12,6 +12,7 @@ use Rattle.pli_coding.specs.Linking.{place_of}
 use Rattle.activation_relation.specs.Layers.{Point}
 use Rattle.activation_relation.specs.ServiceLaws.{IsSystem}
 use Rattle.program_runs.specs.Statements.{Block, IsBegun}
+use Rattle.condition_codes.specs.Codes.{HasCode}
 use Rattle.expression_runs.specs.Assignments.{setting_around}
 use Rattle.expression_runs.specs.Raises.{Routines}
 use Rattle.expression_runs.specs.Variables.{IsNumber, Spot}
@@ -53,7 +54,7 @@ main_told {program} m input acts past b =
 -- ---- while a place is in use
 
 -- an array of a block is one there
-array_placed :
+pub array_placed :
     (k : Block) (place : EditPlace) (x : Spot) (b : Bounds) → IsArray k x b → IsArray (placing place k) x b
 array_placed k place x b is =
     let h = is.known in
@@ -89,6 +90,7 @@ pub record IsSettled (s : Scope) (k : Block) (most : ℕ) : Type 0 where
   pub arrays : s.elements ≡ true → (x : Spot) → is_array_known s x ≡ true → IsArray k x (bounds_known s x)
   pub narrows : s.narrows ≡ true → (x : Spot) → is_narrow_known s x ≡ true → IsScalar k x (type_known s x)
   pub parameters : (x : Spot) → is_received s x ≡ true → IsParameter k x
+  pub code : HasCode k
   -- without texts
   pub wordless : s.texts ≡ false
   pub lists : KnowsLists k
@@ -130,6 +132,7 @@ settled_writes s k most h =
             texts = λ may. absurd (cc (sym h.wordless ∙ may));
             given = λ may. absurd (cc may);
             located = λ may. absurd (cc may);
+            codes = λ may. h.code;
             functions = λ level n is. absurd (cc is);
           };
       error = λ words may place labels line.

@@ -1,8 +1,9 @@
 -- The block of a unit that is raised in a block: it stands in the code, and what is known of a block is known of it.
-use Rattle.std.proofs.Common.{◌≡◌, ◌⊎◌, inl, inr, ℕ, suc, ◌+◌, ◌*◌, ◌≤◌, List, [], ◌∷◌, ◌++◌, length}
+use Rattle.std.proofs.Common.{◌≡◌, ◌⊎◌, inl, inr, ℕ, suc, ◌+◌, ◌*◌, ◌^◌, ◌<◌, ◌≤◌, List, [], ◌∷◌, ◌++◌, length}
 use Rattle.std.proofs.Common.{Bool, Some, true, false, refl, sym, ap, ◌∙◌, subst, arith}
 use Rattle.std.specs.Prelude.{◌==◌, cond, nat_lt}
 use Rattle.std.proofs.lemmas.Bool.{ltb-true}
+use Rattle.std.proofs.lemmas.Bool.Decides.{nat_tests}
 use Rattle.pli_language.specs.declared.condition.Condition.{Condition}
 use Rattle.pli_typing.specs.TypedTree as Y
 use Rattle.pli_meaning.specs.Control.{Label}
@@ -10,7 +11,7 @@ use Rattle.pli_meaning.specs.DeclaredShapes.{head_of}
 use Rattle.pli_meaning.specs.Executing.{entered, labels_in}
 use Rattle.pli_meaning.specs.Raising.{Around}
 use Rattle.pli_meaning.specs.StorageState.{Activation, BlockUnit, ancestor, force, height_of}
-use Rattle.pli_meaning.specs.StorageState.{most_activations}
+use Rattle.pli_meaning.specs.StorageState.{most_activations, oncode_of}
 use Rattle.pli_coding.specs.Assembly.{size_of}
 use Rattle.pli_coding.specs.Environments.{Environment, block_around, none_taken}
 use Rattle.pli_coding.specs.Images.{linked_code}
@@ -45,6 +46,7 @@ use Rattle.number_headlines.proofs.Tables.{block_plain}
 use Rattle.unit_runs.specs.Establishing.{OnUnit, unit_index, unit_of}
 use Rattle.unit_runs.specs.Raised.{AreMade, IsRaiseOf, IsRaised, IsRaisedAt, Raise, Standing, list_index, unit_block}
 use Rattle.unit_runs.specs.Raised.{unit_layer}
+use Rattle.condition_codes.specs.Codes.{HasCode}
 use Rattle.nested_calls.proofs.NestedVariables.{Over, over_known, over_nested, over_number, same_ancestor}
 use Rattle.unit_numbers.specs.Calls.{scope_in}
 use Rattle.unit_numbers.specs.Programs.{are_apart}
@@ -242,6 +244,35 @@ unit_over {program} m {h} {more} {b} {c} {o} {os} {words} {labels} {line} n {e} 
       few = omega arith;
     }
 
+-- ONCODE is the code for which it runs
+code_less : (n further : ℕ) → 0 < n → n < 2 ^ 16 → cond (n == 0) further n < 2 ^ 16
+code_less n further some less =
+    let e : (n == 0) ≡ false = grind (arith, nat_tests) in
+    subst (λ q. cond q further n < 2 ^ 16) (sym e) less
+
+unit_code :
+    {program : Y.Program} (m : Main program) {h : Home} {more b : ℕ} {c : Part} {o : Outer} {os : List Outer}
+    {words : ℕ} {labels : List Label} {line : ℕ} {condition : Condition} (n : Newest m h.input h.acts h.past condition)
+    {e : IsRaised (raise_setting m h o os words labels line) (unit_at m more n.unit n.index) more} {r : Raise} →
+    Case m h more b c o os words labels line n e r →
+    HasCode (unit_block (raise_setting m h o os words labels line) (unit_at m more n.unit n.index) r)
+unit_code {program} m {h} {more} {b} {c} {o} {os} {words} {labels} {line} n {e} {r} q =
+    let w = world_of m h in
+    let y = unit_at m more n.unit n.index in
+    let u = unit_block (raise_setting m h o os words labels line) y r in
+    let made = q.made in
+    let p = r.point in
+    let φ = resumed made.changed (unit_layer w y r) in
+    let a = with_units made.own made.activation in
+    let active : AreActive w.units (a ∷ p.state.activations) (φ ∷ p.control.layers) =
+    subst (λ xs. AreActive w.units xs (φ ∷ p.control.layers)) made.activations
+    (subst (λ ls. AreActive w.units u.first.state.activations ls) made.layers q.begun.resumes.stands.active) in
+    let runs = active.0.runs in
+    let same = runs.0 in
+    let near = q.is.near in
+    subst (λ as'. oncode_of as' < 2 ^ 16) (sym made.activations)
+    (code_less a.oncode (oncode_of p.state.activations) runs.1 (omega (arith, same, near)))
+
 pub unit_entered :
     {program : Y.Program} (m : Main program) {h : Home} {more b : ℕ} {c : Part} {o : Outer} {os : List Outer}
     {words : ℕ} {labels : List Label} {line : ℕ} {condition : Condition} (n : Newest m h.input h.acts h.past condition)
@@ -318,6 +349,7 @@ unit_entered {program} m {h} {more} {b} {c} {o} {os} {words} {labels} {line} n {
         main_arrays = array;
         main_narrows = narrow;
         idle = made.idle;
+        code = unit_code m n q;
         told = called_of_program program k u r.numbers a.told among refl refl q.begun;
         free = record {
           layer = unit_layer w y r;

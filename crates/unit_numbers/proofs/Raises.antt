@@ -1,6 +1,6 @@
 -- What is known around the statements of a block: its raises come to what they mean, be it by a unit of the main
 -- procedure, and so do its calls, its jumps out and what it writes.
-use Rattle.std.proofs.Common.{◌≡◌, inl, inr, ℕ, zero, suc, ◌+◌, ◌^◌, ◌<◌, List, [], ◌∷◌, length}
+use Rattle.std.proofs.Common.{◌≡◌, ◌⊎◌, inl, inr, ℕ, zero, suc, ◌+◌, ◌^◌, ◌<◌, List, [], ◌∷◌, length}
 use Rattle.std.proofs.Common.{Bool, true, false, refl, sym, ap, ◌∙◌, subst, arith}
 use Rattle.std.specs.Prelude.{◌&&◌, ◌==◌, nat_lt, not}
 use Rattle.std.proofs.lemmas.Bool.{and_parts, eqb-true}
@@ -26,13 +26,15 @@ use Rattle.program_places.proofs.Procedures.{raise_routines}
 use Rattle.program_runs.specs.Calls.{left_over}
 use Rattle.program_runs.specs.Starts.{image_parts}
 use Rattle.program_runs.specs.Statements.{Block, Does, Outer, as_outer}
-use Rattle.expression_runs.specs.Assignments.{setting_of}
+use Rattle.expression_runs.specs.Assignments.{setting_around, setting_of}
 use Rattle.expression_runs.specs.Values.{OverflowComes}
-use Rattle.expression_runs.proofs.Raises.{overflow_ends}
-use Rattle.element_runs.specs.Subscripts.{SubscriptComes}
-use Rattle.element_runs.proofs.Outside.{subscripts_end}
+use Rattle.error_units.specs.Errors.{ErrorGoes, ErrorRoutines}
+use Rattle.error_units.proofs.Conditions as E
+use Rattle.error_units.proofs.Conditions.{condition_by, divide_without, error_system, overflow_without, status_by}
+use Rattle.error_units.proofs.Conditions.{subscript_by}
+use Rattle.error_units.proofs.Errors.{error_deep, error_runs}
+use Rattle.edit_runs.specs.Edits.{within}
 use Rattle.operator_runs.specs.Divisors.{ZeroDivideComes}
-use Rattle.operator_runs.proofs.Divisors.{zero_divide_ends}
 use Rattle.number_runs.specs.Knowledge.{Includes, KnowsCalls, KnowsJumps, KnowsPuts, KnowsRaises, KnowsSignals}
 use Rattle.number_runs.specs.Numbers.{Scope}
 use Rattle.number_runs.specs.Variables.{words_in}
@@ -42,20 +44,22 @@ use Rattle.unit_runs.specs.Signals.{IsResumed}
 use Rattle.unit_runs.proofs.DeepRaises.{deep_overflow_ends, deep_raise_ends}
 use Rattle.unit_runs.proofs.UnitRuns.{RaisesTo, overflow_returns, raise_returns}
 use Rattle.unit_runs.proofs.UnitVariables.{none_made}
-use Rattle.phase_runs.proofs.Signals.{codes_are, signal_by, signal_ends}
+use Rattle.phase_runs.proofs.Signals.{codes_are, signal_by}
 use Rattle.nested_calls.specs.Nested.{parent_at}
-use Rattle.unit_numbers.specs.Calls.{has_unit}
+use Rattle.unit_numbers.specs.Calls.{has_jumps, has_unit, is_jumped_to}
 use Rattle.unit_numbers.proofs.Calls.{calls_of}
 use Rattle.unit_numbers.proofs.Divides.{deep_divide_ends, divide_returns}
-use Rattle.unit_numbers.proofs.Established.{InForce, Newest, error_system, in_force, list_placed, none_system}
+use Rattle.unit_numbers.proofs.Established.{InForce, Newest, in_force, list_placed, none_system}
 use Rattle.unit_numbers.proofs.Homes.{Home, IsHome', home_block}
 use Rattle.unit_numbers.proofs.Mains.{Main, block_for, level_of, list_of, main_begun, main_layer, most_for}
 use Rattle.unit_numbers.proofs.Outer.{main_saves, made_stacks}
 use Rattle.unit_numbers.proofs.Past.{past_like}
 use Rattle.unit_numbers.proofs.Puts.{settled_writes}
 use Rattle.unit_numbers.proofs.Raised.{Case, part_of, raise_setting, unit_at, unit_entered, unit_raised}
-use Rattle.unit_numbers.proofs.Scenes.{EachBody, IsAbove, IsAt, IsInside, Part, Rises, block_of, scope_of}
-use Rattle.unit_numbers.proofs.Units.{IsOfNumbers, none_coded, unit_is}
+use Rattle.unit_numbers.proofs.Scenes.{EachBody, IsAbove, IsAt, IsInside, Part, Rises, at_placed, at_waited}
+use Rattle.unit_numbers.proofs.Scenes.{block_of, placed_outer, rises_above, scope_of, waited_outer}
+use Rattle.unit_numbers.proofs.Routines.{error_routines}
+use Rattle.unit_numbers.proofs.Units.{none_coded, unit_is}
 
 -- ---- a unit that is raised
 
@@ -95,18 +99,41 @@ unit_does {program} m h ih more b c o os a each own rises words labels includes 
             made = made;
             begun = b';
           } in
-          each h b (part_of m more x n.index u) (as_outer (unit_block z y r) [])
+          (each h b (part_of m more x n.index u) (as_outer (unit_block z y r) [])
           (as_outer (block_of m h o os) labels ∷ os)
-          ih (unit_entered m n q) (rises labels includes),
+          ih (unit_entered m n q) (rises labels includes)).each,
     )
 
 -- ---- the conditions
 
-error_at :
-    MarkedOnce → {program : Y.Program} (m : Main program) (h : Home) → IsHome' m h → (more blocks : ℕ) (c : Part)
-    (o : Outer) (os : List Outer) → IsAt m h more blocks c o os → IsSystem (force o.first.state.activations C.Error)
-error_at once m h ih more blocks c o os a =
-    subst IsSystem (sym (a.forced C.Error)) (error_system once m h.input h.acts h.past ih.known)
+pub error_at :
+    (X : Type 0) → MarkedOnce → {program : Y.Program} (m : Main program) (h : Home) → IsHome' m h →
+    (more blocks : ℕ) (c : Part) (o : Outer) (os : List Outer) → IsAt m h (suc more) blocks c o os → EachBody m more → (own : List Label) →
+    Rises m h (block_of m h o os) own → (words : ℕ) (labels : List Label) → Includes own labels → (line : ℕ)
+    (r : ErrorRoutines (links_for program) (linked_code (code_for program))) →
+    ErrorGoes X (raise_setting m h o os words labels line) r
+error_at X once {program} m h ih more blocks c o os a each own rises words labels includes line r =
+    by blocks a (in_force once m h.input h.acts h.past ih.known C.Error)
+  where
+    by :
+        (blocks' : ℕ) → IsAt m h (suc more) blocks' c o os → InForce m h.input h.acts h.past C.Error →
+        ErrorGoes X (raise_setting m h o os words labels line) r
+    by blocks' a' (inl system) =
+        let inside = r.routines.linked.inside in
+        error_system X (raise_setting m h o os words labels line) r
+        (subst IsSystem (sym (a'.forced C.Error)) system) ih.few (omega (arith, inside))
+    by zero a' (inr n) = let some = a'.depth.some in absurd (omega (arith, some))
+    by (suc b) a' (inr n) =
+        let z = raise_setting m h o os words labels line in
+        let y = unit_at m more n.unit n.index in
+        by_decision (nat_lt (length o.first.state.activations) most_activations)
+        (λ few.
+        let e = unit_raised once m h ih more b c o os a' words labels line n true few in
+        error_runs X z y more e.0
+        (unit_does m h ih more b c o os a' each own rises words labels includes line n e.0 e.1 few) n.condition r)
+        (λ many.
+        let e = unit_raised once m h ih more b c o os a' words labels line n false many in
+        error_deep X z y more e.0 n.condition r)
 
 overflow_at :
     MarkedOnce → {program : Y.Program} (m : Main program) (h : Home) → IsHome' m h → (more blocks : ℕ) (c : Part)
@@ -114,15 +141,11 @@ overflow_at :
     Rises m h (block_of m h o os) own → (words : ℕ) (labels : List Label) → Includes own labels → (line : ℕ) →
     InForce m h.input h.acts h.past C.FixedOverflow → OverflowComes (raise_setting m h o os words labels line)
 overflow_at once {program} m h ih more blocks c o os a each own rises words labels includes line (inl system) =
-    let routines = raise_routines once program m.loadable in
-    let inside = routines.linked.inside in
-    overflow_ends (raise_setting m h o os words labels line) (record {
-      routines = routines;
-      overflow = subst IsSystem (sym (a.forced C.FixedOverflow)) system;
-      error = error_at once m h ih (suc more) blocks c o os a;
-      acts = ih.few;
-      most = omega (arith, inside);
-    })
+    let routines = error_routines once program m.loadable in
+    let inside = routines.routines.linked.inside in
+    overflow_without (raise_setting m h o os words labels line) routines
+    (error_at (Unit {0}) once m h ih more blocks c o os a each own rises words labels includes line routines)
+    (subst IsSystem (sym (a.forced C.FixedOverflow)) system) ih.few (omega (arith, inside))
 overflow_at once m h ih more zero c o os a each own rises words labels includes line (inr n) =
     let some = a.depth.some in absurd (omega (arith, some))
 overflow_at once m h ih more (suc b) c o os a each own rises words labels includes line (inr n) =
@@ -143,15 +166,11 @@ divide_at :
     Rises m h (block_of m h o os) own → (words : ℕ) (labels : List Label) → Includes own labels → (line : ℕ) →
     InForce m h.input h.acts h.past C.ZeroDivide → ZeroDivideComes (raise_setting m h o os words labels line)
 divide_at once {program} m h ih more blocks c o os a each own rises words labels includes line (inl system) =
-    let routines = raise_routines once program m.loadable in
-    let inside = routines.linked.inside in
-    zero_divide_ends (raise_setting m h o os words labels line) (record {
-      routines = routines;
-      divisor = subst IsSystem (sym (a.forced C.ZeroDivide)) system;
-      error = error_at once m h ih (suc more) blocks c o os a;
-      acts = ih.few;
-      most = omega (arith, inside);
-    })
+    let routines = error_routines once program m.loadable in
+    let inside = routines.routines.linked.inside in
+    divide_without (raise_setting m h o os words labels line) routines
+    (error_at (Unit {0}) once m h ih more blocks c o os a each own rises words labels includes line routines)
+    (subst IsSystem (sym (a.forced C.ZeroDivide)) system) ih.few (omega (arith, inside))
 divide_at once m h ih more zero c o os a each own rises words labels includes line (inr n) =
     let some = a.depth.some in absurd (omega (arith, some))
 divide_at once m h ih more (suc b) c o os a each own rises words labels includes line (inr n) =
@@ -168,9 +187,12 @@ divide_at once m h ih more (suc b) c o os a each own rises words labels includes
 
 -- ---- SIGNAL
 
-resumed_of : (c d : Condition) → c ≡ d → IsOfNumbers c → IsResumed d
-resumed_of c d same (inl e) = subst IsResumed same (subst IsResumed (sym e) tt)
-resumed_of c d same (inr e) = subst IsResumed same (subst IsResumed (sym e) tt)
+is_error : (c : Condition) → (C.Error ≡ c) ⊎ IsResumed c
+is_error C.Area = inr tt
+is_error C.FixedOverflow = inr tt
+is_error C.ZeroDivide = inr tt
+is_error C.Endfile = inr tt
+is_error C.Error = inl refl
 
 -- where it stands
 record Signal {program : Y.Program} (m : Main program) (h : Home) (o : Outer) (os : List Outer)
@@ -226,51 +248,56 @@ signal_at :
     MarkedOnce → {program : Y.Program} (m : Main program) (h : Home) → IsHome' m h → (more blocks : ℕ) (c : Part)
     (o : Outer) (os : List Outer) → IsAt m h (suc more) blocks c o os → EachBody m more → (own : List Label) →
     Rises m h (block_of m h o os) own → (labels : List Label) → Includes own labels → (condition : Condition)
-    (line index : ℕ) → Signal m h o os condition line index → InForce m h.input h.acts h.past condition →
+    (line index : ℕ) → Signal m h o os condition line index →
     Does (block_of m h o os) labels (Y.Signal condition line) index left_over
-signal_at once {program} m h ih more blocks c o os a each own rises labels includes condition line index z
-    (inl system) =
-    let routines = raise_routines once program m.loadable in
-    let inside = routines.linked.inside in
-    let here = z.linked.inside in
-    signal_ends (block_of m h o os) labels condition line index left_over
-    (record {
-      act = record { line_fits = z.fits; acts = ih.few };
-      statement = z.linked;
-      paid = omega (arith, inside, here);
-      routines = routines;
-      place = error_routine once program m.loadable;
-    })
-    (subst IsSystem (sym (a.forced condition)) system) (error_at once m h ih (suc more) blocks c o os a)
-signal_at once m h ih more zero c o os a each own rises labels includes condition line index z (inr n) =
-    let some = a.depth.some in absurd (omega (arith, some))
-signal_at once {program} m h ih more (suc b) c o os a each own rises labels includes condition line index z (inr n) =
-    let u = unit_is program m.called m.head (list_of m) n.unit n.placed.is in
-    signal_to m h ih o os labels condition line index (resumed_of n.unit.condition condition n.condition u.condition) z
-    (signal_in once m h ih more b c o os a each own rises labels includes line n)
+signal_at once {program} m h ih more blocks c o os a each own rises labels includes condition line index z =
+    by (is_error condition)
+  where
+    routines : ErrorRoutines (links_for program) (linked_code (code_for program))
+    routines = error_routines once program m.loadable
+
+    goes : ErrorGoes (Unit {0}) (raise_setting m h o os 0 labels line) routines
+    goes = error_at (Unit {0}) once m h ih more blocks c o os a each own rises 0 labels includes line routines
+
+    raises :
+        (blocks' : ℕ) → IsAt m h (suc more) blocks' c o os → InForce m h.input h.acts h.past condition →
+        RaisesTo (raise_setting m h o os 0 labels line) condition (code_signalled condition)
+    raises blocks' a' (inl system) =
+        let inside = routines.routines.linked.inside in
+        condition_by (raise_setting m h o os 0 labels line) routines goes condition
+        (subst IsSystem (sym (a'.forced condition)) system) ih.few (omega (arith, inside)) (code_signalled condition)
+        (codes_are condition)
+    raises zero a' (inr n) = let some = a'.depth.some in absurd (omega (arith, some))
+    raises (suc b) a' (inr n) = signal_in once m h ih more b c o os a' each own rises labels includes line n
+
+    by : (C.Error ≡ condition) ⊎ IsResumed condition →
+        Does (block_of m h o os) labels (Y.Signal condition line) index left_over
+    by (inl error) =
+        let here = z.linked.inside in
+        subst (λ d. Linked (links_for program) (linked_code (code_for program)) index
+        (stmt_code o.environment none_taken (Y.Signal d line)) →
+        Does (block_of m h o os) labels (Y.Signal d line) index left_over) error
+        (λ l.
+        let here' = l.inside in
+        E.signal_by (block_of m h o os) labels line index left_over (most_for program) routines
+        (record {
+          act = record { line_fits = z.fits; acts = ih.few };
+          statement = l;
+          paid = omega (arith, here');
+        })
+        goes)
+        z.linked
+    by (inr resumed) =
+        signal_to m h ih o os labels condition line index resumed z
+        (raises blocks a (in_force once m h.input h.acts h.past ih.known condition))
 
 -- ---- subscripts
-
-subscript_at :
-    MarkedOnce → {program : Y.Program} (m : Main program) (h : Home) → IsHome' m h → (more blocks : ℕ) (c : Part)
-    (o : Outer) (os : List Outer) → IsAt m h more blocks c o os → (words : ℕ) (labels : List Label) (line : ℕ) →
-    SubscriptComes (raise_setting m h o os words labels line)
-subscript_at once {program} m h ih more blocks c o os a words labels line =
-    let routines = raise_routines once program m.loadable in
-    let inside = routines.linked.inside in
-    subscripts_end (raise_setting m h o os words labels line) (record {
-      routines = routines;
-      place = error_routine once program m.loadable;
-      error = error_at once m h ih more blocks c o os a;
-      acts = ih.few;
-      most = omega (arith, inside);
-    })
 
 raises_of :
     MarkedOnce → {program : Y.Program} (m : Main program) (h : Home) → IsHome' m h → (more blocks : ℕ) (c : Part)
     (o : Outer) (os : List Outer) → IsAt m h (suc more) blocks c o os → EachBody m more → (own : List Label) →
     Rises m h (block_of m h o os) own → KnowsRaises (scope_of m c) (block_of m h o os) own (most_for program)
-raises_of once m h ih more blocks c o os a each own rises =
+raises_of once {program} m h ih more blocks c o os a each own rises =
     record {
       overflow = λ may words set labels line includes.
           overflow_at once m h ih more blocks c o os a each own rises words labels includes line
@@ -279,23 +306,29 @@ raises_of once m h ih more blocks c o os a each own rises =
           divide_at once m h ih more blocks c o os a each own rises words labels includes line
           (in_force once m h.input h.acts h.past ih.known C.ZeroDivide);
       subscript = λ may words set labels line includes.
-          subscript_at once m h ih (suc more) blocks c o os a words labels line;
+          let routines = error_routines once program m.loadable in
+          subscript_by (raise_setting m h o os words labels line) routines
+          (error_at (Unit {0}) once m h ih more blocks c o os a each own rises words labels includes line routines);
     }
 
 -- ---- what is written
 
 -- nothing for which there is a unit is raised there
-puts_of :
+held_puts :
     MarkedOnce → {program : Y.Program} (m : Main program) (h : Home) → IsHome' m h → (more blocks : ℕ) (c : Part)
     (o : Outer) (os : List Outer) → IsAt m h more blocks c o os → c.writes ≡ true →
+    not (has_unit C.Error (list_of m)) ≡ true → is_jumped_to c.caller c.unit (list_of m) ≡ true →
     KnowsPuts (scope_of m c) (block_of m h o os) (most_for program)
-puts_of once {program} m h ih more blocks c o os a writes =
+held_puts once {program} m h ih more blocks c o os a writes errors held =
     let routines = raise_routines once program m.loadable in
     let inside = routines.linked.inside in
-    let none : (d : Condition) → not (c.writes && has_unit d (list_of m)) ≡ true →
+    let none : (d : Condition) →
+    not (c.writes && (is_jumped_to c.caller c.unit (list_of m) && has_unit d (list_of m))) ≡ true →
     IsSystem (force o.first.state.activations d) = λ d may.
     subst IsSystem (sym (a.forced d)) (none_system once m h.input h.acts h.past ih.known d
-    (subst (λ w. not (w && has_unit d (list_of m)) ≡ true) writes may)) in
+    (subst (λ q. not (q && has_unit d (list_of m)) ≡ true) held
+    (subst (λ w. not (w && (is_jumped_to c.caller c.unit (list_of m) && has_unit d (list_of m))) ≡ true) writes
+    may))) in
     settled_writes (scope_of m c) (block_of m h o os) (most_for program)
     (record {
       begun = a.begun;
@@ -303,16 +336,78 @@ puts_of once {program} m h ih more blocks c o os a writes =
       place = error_routine once program m.loadable;
       overflow = none C.FixedOverflow;
       divisor = none C.ZeroDivide;
-      error = error_at once m h ih more blocks c o os a;
+      error = subst IsSystem (sym (a.forced C.Error))
+          (none_system once m h.input h.acts h.past ih.known C.Error errors);
       acts = ih.few;
       few = omega (arith, inside);
       variables = a.variables;
       arrays = λ may. a.arrays;
       narrows = λ may. a.narrows;
       parameters = λ x is. absurd (cc is);
+      code = a.code;
       wordless = refl;
       lists = lists_known program (block_of m h o os) m.memory a.told;
     })
+
+-- what is raised there, ERROR too, comes to what it means, and no jump of a unit lands in this block
+free_puts :
+    MarkedOnce → {program : Y.Program} (m : Main program) (h : Home) → IsHome' m h → (more blocks : ℕ) (c : Part)
+    (o : Outer) (os : List Outer) → IsAt m h (suc more) blocks c o os → EachBody m more →
+    (has_jumps (list_of m) ≡ true → IsAbove m h os) →
+    KnowsPuts (scope_of m c) (block_of m h o os) (most_for program)
+free_puts once {program} m h ih more blocks c o os a each above =
+    let k = block_of m h o os in
+    let routines = error_routines once program m.loadable in
+    record {
+      numbers = λ words may place labels line.
+          let o' = placed_outer place o in
+          let a' = at_placed a place in
+          let rises = rises_above m h (block_of m h o' os) [] above in
+          record {
+            begun = a'.begun;
+            overflow = λ raises.
+                overflow_at once m h ih more blocks c o' os a' each [] rises words [] (λ label e. e) line
+                (in_force once m h.input h.acts h.past ih.known C.FixedOverflow);
+            divisor = λ raises.
+                divide_at once m h ih more blocks c o' os a' each [] rises words [] (λ label e. e) line
+                (in_force once m h.input h.acts h.past ih.known C.ZeroDivide);
+            subscript = λ raises.
+                subscript_by (raise_setting m h o' os words [] line) routines
+                (error_at (Unit {0}) once m h ih more blocks c o' os a' each [] rises words [] (λ label e. e) line
+                routines);
+            variables = a'.variables;
+            arrays = λ raises. a'.arrays;
+            narrows = λ may'. a'.narrows;
+            parameters = λ x is. absurd (cc is);
+            texts = λ may'. absurd (cc may');
+            given = λ may'. absurd (cc may');
+            located = λ may'. absurd (cc may');
+            codes = λ may'. a'.code;
+            functions = λ level n is. absurd (cc is);
+          };
+      error = λ words may place labels line.
+          status_by (List ℕ) (within place (setting_around words k labels line (most_for program))) routines
+          (λ entries.
+          let o' = waited_outer entries (placed_outer place o) in
+          let a' = at_waited (at_placed a place) entries in
+          error_at (List ℕ) once m h ih more blocks c o' os a' each [] (rises_above m h (block_of m h o' os) [] above)
+          words [] (λ label e. e) line routines);
+      lists = lists_known program k m.memory a.told;
+    }
+
+puts_of :
+    MarkedOnce → {program : Y.Program} (m : Main program) (h : Home) → IsHome' m h → (more blocks : ℕ) (c : Part)
+    (o : Outer) (os : List Outer) → IsAt m h (suc more) blocks c o os → EachBody m more →
+    (is_jumped_to c.caller c.unit (list_of m) ≡ false → has_jumps (list_of m) ≡ true → IsAbove m h os) →
+    (scope_of m c).puts ≡ true → KnowsPuts (scope_of m c) (block_of m h o os) (most_for program)
+puts_of once {program} m h ih more blocks c o os a each above puts =
+    let jumped = is_jumped_to c.caller c.unit (list_of m) in
+    let parts = and_parts c.writes (not (jumped && has_unit C.Error (list_of m))) puts in
+    by_decision jumped
+    (λ held.
+    held_puts once m h ih (suc more) blocks c o os a parts.0
+    (subst (λ q. not (q && has_unit C.Error (list_of m)) ≡ true) held parts.1) held)
+    (λ free. free_puts once m h ih more blocks c o os a each (above free))
 
 -- ---- jumps out
 
@@ -371,18 +466,20 @@ far_of once {program} m h ih more blocks c o os a inner above label among ls lin
 
 jumps_of :
     MarkedOnce → {program : Y.Program} (m : Main program) (h : Home) → IsHome' m h → (more blocks : ℕ) (c : Part)
-    (o : Outer) (os : List Outer) → IsAt m h more blocks c o os → (c.unit ≡ true → IsInside m c o × IsAbove m h os) →
+    (o : Outer) (os : List Outer) → IsAt m h more blocks c o os →
+    (c.unit ≡ true → IsInside m c o × (has_jumps (list_of m) ≡ true → IsAbove m h os)) →
     (own : List Label) → KnowsJumps (scope_of m c) (block_of m h o os) own left_over
 jumps_of once {program} m h ih more blocks c o os a inner own labels level label line index includes out less =
     let there = (level == c.caller.level) && is_among label (labels_in (list_of m)) in
-    let q = and_parts c.unit there out in
+    let q = and_parts c.unit (has_jumps (list_of m) && there) out in
     let i = inner q.0 in
-    let p = and_parts (level == c.caller.level) (is_among label (labels_in (list_of m))) q.1 in
+    let j = and_parts (has_jumps (list_of m)) there q.1 in
+    let p = and_parts (level == c.caller.level) (is_among label (labels_in (list_of m))) j.1 in
     let same = eqb-true level c.caller.level p.0 ∙ ap (λ (x : Y.BlockHead). x.level) i.0.caller in
     subst (λ n. Linked (links_for program) (linked_code (code_for program)) index
     (stmt_code o.environment none_taken (Y.Goto n label line)) →
     Does (block_of m h o os) labels (Y.Goto n label line) index left_over) (sym same)
-    (λ l. far_of once m h ih more blocks c o os a i.0 i.1 label p.1 labels line index less l)
+    (λ l. far_of once m h ih more blocks c o os a i.0 (i.1 j.0) label p.1 labels line index less l)
 
 -- ---- all of it
 
@@ -396,15 +493,17 @@ pub record Knows (program : Y.Program) (s : Scope) (k : Block) (own : List Label
 pub knows_of :
     MarkedOnce → {program : Y.Program} (m : Main program) (h : Home) → IsHome' m h → (more blocks : ℕ) (c : Part)
     (o : Outer) (os : List Outer) → IsAt m h (suc more) blocks c o os →
-    (c.unit ≡ true → IsInside m c o × IsAbove m h os) → EachBody m more → (own : List Label) →
-    Rises m h (block_of m h o os) own → Knows program (scope_of m c) (block_of m h o os) own
-knows_of once m h ih more blocks c o os a inner each own rises =
+    (c.unit ≡ true → IsInside m c o × (has_jumps (list_of m) ≡ true → IsAbove m h os)) →
+    (is_jumped_to c.caller c.unit (list_of m) ≡ false → has_jumps (list_of m) ≡ true → IsAbove m h os) →
+    EachBody m more → (own : List Label) → Rises m h (block_of m h o os) own →
+    Knows program (scope_of m c) (block_of m h o os) own
+knows_of once m h ih more blocks c o os a inner above each own rises =
     record {
       raises = raises_of once m h ih more blocks c o os a each own rises;
       calls = calls_of once m h ih more blocks c o os a each own rises;
       jumps = jumps_of once m h ih (suc more) blocks c o os a inner own;
       signals = λ labels condition line index includes may fits l.
           signal_at once m h ih more blocks c o os a each own rises labels includes condition line index
-          (record { fits = fits; linked = l }) (in_force once m h.input h.acts h.past ih.known condition);
-      puts = λ may. puts_of once m h ih (suc more) blocks c o os a may;
+          (record { fits = fits; linked = l });
+      puts = λ may. puts_of once m h ih more blocks c o os a each above may;
     }

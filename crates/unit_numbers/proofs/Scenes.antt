@@ -13,14 +13,24 @@ use Rattle.pli_coding.specs.Registers.{held_registers}
 use Rattle.pli_coding.specs.Statements.{stmts_code}
 use Rattle.activation_relation.specs.FrameLaws.{with_waits}
 use Rattle.activation_relation.specs.Layers.{Layer}
+use Rattle.edit_runs.specs.Writing.{with_edits}
+use Rattle.pli_serving.specs.ServiceState.{EditPlace, Entry}
+use Rattle.program_runs.proofs.Waiting.{begun_waits}
+use Rattle.text_runs.proofs.Waiting.{number_waits}
+use Rattle.number_runs.proofs.Waiting.{array_waits, narrow_waits}
+use Rattle.edit_runs.proofs.Places.{begun_placed, number_placed}
+use Rattle.number_runs.proofs.Puts.{narrow_placed}
 use Rattle.program_places.specs.Placed.{Placed}
 use Rattle.program_places.specs.Programs.{code_for, links_for}
 use Rattle.program_runs.specs.Calls.{left_over}
 use Rattle.program_runs.specs.Starts.{image_parts}
-use Rattle.program_runs.specs.Statements.{Block, EachDoes, IsBegun, Outer, as_outer, outer_block}
+use Rattle.program_runs.specs.Statements.{Block, EachDoes, IsBegun, Outer, as_outer, outer_block, with_texts}
+use Rattle.expression_runs.specs.Assignments.{setting_of}
 use Rattle.expression_runs.specs.Variables.{IsNumber, Spot}
 use Rattle.element_runs.specs.Arrays.{IsArray}
 use Rattle.scalar_runs.specs.Scalars.{IsScalar}
+use Rattle.condition_codes.specs.Codes.{HasCode}
+use Rattle.error_units.specs.Errors.{ErrorGoes, ErrorRoutines}
 use Rattle.counter_runs.proofs.Known.{array_told, number_told}
 use Rattle.counter_runs.proofs.Words.{begun_telling}
 use Rattle.argument_runs.specs.Lists.{with_list}
@@ -32,9 +42,10 @@ use Rattle.number_runs.proofs.Narrow.{narrow_told}
 use Rattle.number_runs.specs.Statements.{are_statements, statements_need, statements_set}
 use Rattle.number_headlines.specs.Programs.{most_waiting}
 use Rattle.number_headlines.proofs.Running.{Free, HasDepth, HasTable}
-use Rattle.unit_numbers.specs.Calls.{scope_in}
+use Rattle.unit_numbers.specs.Calls.{has_jumps, scope_in}
 use Rattle.unit_numbers.proofs.Homes.{Home, IsHome', home_block, world_of}
-use Rattle.unit_numbers.proofs.Mains.{Main, list_of, main_scope}
+use Rattle.unit_numbers.proofs.Puts.{array_placed}
+use Rattle.unit_numbers.proofs.Mains.{Main, list_of, main_scope, most_for}
 
 -- ---- what runs
 
@@ -89,6 +100,8 @@ pub record IsAt {program : Y.Program} (m : Main program) (h : Home) (more blocks
         (x : Spot) → is_narrow_known (main_scope m false) x ≡ true →
         IsScalar (block_of m h o os) x (type_known (main_scope m false) x)
     pub idle : o.first.control.waiting ≡ None
+    -- ONCODE is a condition's code, or 0
+    pub code : HasCode (block_of m h o os)
     -- what the program tells of its static data is told there
     pub told : IsOf program (block_of m h o os)
     pub free : Free (world_of m h) o.first blocks
@@ -130,19 +143,21 @@ pub record IsAbove {program : Y.Program} (m : Main program) (h : Home) (os : Lis
   pub there : drop behind os ≡ as_outer (home_block m h) carried ∷ []
   pub includes : Includes (labels_in (list_of m)) carried
 
--- so is it of each block that is entered in a list of a block
+-- so is it of each block that is entered in a list of a block, if units jump
 abbrev pub Rises : {program : Y.Program} → Main program → Home → Block → (own : List Label) → Type 0
 Rises m h k own =
-    (labels : List Label) → Includes own labels → IsAbove m h (as_outer k labels ∷ k.outers)
+    (labels : List Label) → Includes own labels → has_jumps (list_of m) ≡ true →
+    IsAbove m h (as_outer k labels ∷ k.outers)
 
 pub rises_home :
     {program : Y.Program} (m : Main program) (h : Home) → Rises m h (home_block m h) (labels_in (list_of m))
-rises_home m h labels includes = record { behind = 0; carried = labels; there = refl; includes = includes }
+rises_home m h labels includes jumps = record { behind = 0; carried = labels; there = refl; includes = includes }
 
 pub rises_above :
-    {program : Y.Program} (m : Main program) (h : Home) (k : Block) (own : List Label) → IsAbove m h k.outers →
-    Rises m h k own
-rises_above m h k own a labels includes =
+    {program : Y.Program} (m : Main program) (h : Home) (k : Block) (own : List Label) →
+    (has_jumps (list_of m) ≡ true → IsAbove m h k.outers) → Rises m h k own
+rises_above m h k own above labels includes jumps =
+    let a = above jumps in
     record { behind = suc a.behind; carried = a.carried; there = a.there; includes = a.includes }
 
 -- ---- while limits of loops wait in words of its frame
@@ -181,6 +196,7 @@ at_told {program} {m} {h} {more} {blocks} {c} {o} {os} a waits =
       main_narrows = λ x is.
           narrow_told k φ φs waits free.newest x (type_known (main_scope m false) x) (a.main_narrows x is);
       idle = a.idle;
+      code = a.code;
       told = record { code = a.told.code; links = a.told.links; constants = a.told.constants };
       free = record {
         layer = with_waits waits φ;
@@ -196,9 +212,112 @@ at_told {program} {m} {h} {more} {blocks} {c} {o} {os} a waits =
       depth = record { some = a.depth.some; all = a.depth.all };
     }
 
+-- ---- while a place in a format list is in use
+
+abbrev pub placed_outer : EditPlace → Outer → Outer
+placed_outer place o = record o { first = with_edits (place ∷ o.first.control.edits) o.first }
+
+pub at_placed :
+    {program : Y.Program} {m : Main program} {h : Home} {more blocks : ℕ} {c : Part} {o : Outer} {os : List Outer}
+    (a : IsAt m h more blocks c o os) (place : EditPlace) → IsAt m h more blocks c (placed_outer place o) os
+at_placed {program} {m} {h} {more} {blocks} {c} {o} {os} a place =
+    let k = block_of m h o os in
+    let free = a.free in
+    record {
+      begun = begun_placed k place a.begun;
+      source = a.source;
+      parts = a.parts;
+      around = a.around;
+      enter = a.enter;
+      turns = a.turns;
+      enough = a.enough;
+      held = a.held;
+      nested = record { own = a.nested.own; few = a.nested.few; some = a.nested.some; same = a.nested.same };
+      inside = a.inside;
+      variables = λ x is. number_placed k place x (a.variables x is);
+      arrays = λ x is. array_placed k place x (bounds_known (scope_of m c) x) (a.arrays x is);
+      narrows = λ x is. narrow_placed k place x (type_known (scope_of m c) x) (a.narrows x is);
+      forced = a.forced;
+      oldest = a.oldest;
+      mains = λ x is. number_placed k place x (a.mains x is);
+      main_arrays = λ x is. array_placed k place x (bounds_known (main_scope m false) x) (a.main_arrays x is);
+      main_narrows = λ x is. narrow_placed k place x (type_known (main_scope m false) x) (a.main_narrows x is);
+      idle = a.idle;
+      code = a.code;
+      told = record { code = a.told.code; links = a.told.links; constants = a.told.constants };
+      free = record {
+        layer = free.layer;
+        below = free.below;
+        newest = free.newest;
+        even = free.even;
+        under = free.under;
+        low = free.low;
+        used = free.used;
+        fits = free.fits;
+      };
+      tabled = a.tabled;
+      depth = record { some = a.depth.some; all = a.depth.all };
+    }
+
+-- ---- while texts wait
+
+abbrev pub waited_outer : List Entry → Outer → Outer
+waited_outer entries o = record o { first = with_texts (entries ++ o.first.control.entries) o.first }
+
+pub at_waited :
+    {program : Y.Program} {m : Main program} {h : Home} {more blocks : ℕ} {c : Part} {o : Outer} {os : List Outer}
+    (a : IsAt m h more blocks c o os) (entries : List Entry) → IsAt m h more blocks c (waited_outer entries o) os
+at_waited {program} {m} {h} {more} {blocks} {c} {o} {os} a entries =
+    let k = block_of m h o os in
+    let free = a.free in
+    record {
+      begun = begun_waits k entries a.begun;
+      source = a.source;
+      parts = a.parts;
+      around = a.around;
+      enter = a.enter;
+      turns = a.turns;
+      enough = a.enough;
+      held = a.held;
+      nested = record { own = a.nested.own; few = a.nested.few; some = a.nested.some; same = a.nested.same };
+      inside = a.inside;
+      variables = λ x is. number_waits k entries x (a.variables x is);
+      arrays = λ x is. array_waits k entries x (bounds_known (scope_of m c) x) (a.arrays x is);
+      narrows = λ x is. narrow_waits k entries x (type_known (scope_of m c) x) (a.narrows x is);
+      forced = a.forced;
+      oldest = a.oldest;
+      mains = λ x is. number_waits k entries x (a.mains x is);
+      main_arrays = λ x is. array_waits k entries x (bounds_known (main_scope m false) x) (a.main_arrays x is);
+      main_narrows = λ x is. narrow_waits k entries x (type_known (main_scope m false) x) (a.main_narrows x is);
+      idle = a.idle;
+      code = a.code;
+      told = record { code = a.told.code; links = a.told.links; constants = a.told.constants };
+      free = record {
+        layer = free.layer;
+        below = free.below;
+        newest = free.newest;
+        even = free.even;
+        under = free.under;
+        low = free.low;
+        used = free.used;
+        fits = free.fits;
+      };
+      tabled = a.tabled;
+      depth = record { some = a.depth.some; all = a.depth.all };
+    }
+
 -- ---- what is proved of each block that may be entered so many deep
+
+-- its statements do what they mean, and so does ERROR behind them
+pub record BodyGoes {program : Y.Program} (m : Main program) (h : Home) (c : Part) (o : Outer) (os : List Outer)
+    : Type 0
+  where
+    pub each : EachDoes (block_of m h o os) (labels_in c.body ++ []) c.body c.index left_over
+    pub error :
+        (line : ℕ) (r : ErrorRoutines (links_for program) (linked_code (code_for program))) →
+        ErrorGoes (Unit {0}) (setting_of (block_of m h o os) [] line (most_for program)) r
 
 abbrev pub EachBody : {program : Y.Program} → Main program → (more : ℕ) → Type 0
 EachBody {program} m more =
     (h : Home) (blocks : ℕ) (c : Part) (o : Outer) (os : List Outer) → IsHome' m h → IsEntered m h more blocks c o os →
-    IsAbove m h os → EachDoes (block_of m h o os) (labels_in c.body ++ []) c.body c.index left_over
+    (has_jumps (list_of m) ≡ true → IsAbove m h os) → BodyGoes m h c o os

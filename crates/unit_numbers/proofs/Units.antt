@@ -3,8 +3,6 @@ use Rattle.std.proofs.Common.{◌≡◌, ◌⊎◌, inl, inr, ℕ, ◌^◌, ◌<
 use Rattle.std.proofs.Common.{sym, ap, ◌∙◌}
 use Rattle.std.specs.Prelude.{◌&&◌, ◌==◌, Bool, nat_le}
 use Rattle.std.proofs.lemmas.Bool.{and_parts, eqb-true, leb-true, ltb-true, or_cases}
-use Rattle.pli_language.specs.declared.condition.Condition.{Condition}
-use Rattle.pli_language.specs.declared.condition.Condition.TheVariants as C
 use Rattle.pli_typing.specs.TypedTree as Y
 use Rattle.pli_meaning.specs.DeclaredShapes.{variables_of_block}
 use Rattle.pli_meaning.specs.Executing.{labels_in}
@@ -17,15 +15,12 @@ use Rattle.number_runs.specs.Numbers.{has_none}
 use Rattle.number_runs.specs.Statements.{are_statements, is_line, statements_need, statements_set}
 use Rattle.number_headlines.specs.Programs.{is_body, most_waiting}
 use Rattle.unit_numbers.specs.Calls.{is_body_in, scope_in}
-use Rattle.unit_numbers.specs.Units.{is_bare, is_of_numbers, is_unit}
+use Rattle.unit_numbers.specs.Units.{is_bare, is_unit}
 
 abbrev pub IsBare : Y.Program → Y.BlockHead → Type 0
 IsBare program head =
     (head.kind ≡ Y.SimpleUnit)
     ⊎ ((head.kind ≡ Y.UnitBlock) × (variables_of_block program head.number ≡ []))
-
-abbrev pub IsOfNumbers : Condition → Type 0
-IsOfNumbers c = (c ≡ C.FixedOverflow) ⊎ (c ≡ C.ZeroDivide)
 
 -- a body that writes or not, with what its temporaries and its loops take
 pub record Fit (program : Y.Program) (ns : List ℕ) (all : Y.Stmts) (caller : Y.BlockHead) (unit valued : Bool)
@@ -69,24 +64,12 @@ fit_is program ns all caller unit valued body h =
     by (inr g) = one true g
 
 pub record Unit' (program : Y.Program) (ns : List ℕ) (main : Y.BlockHead) (all : Y.Stmts) (x : OnUnit) : Type 0 where
-  pub condition : IsOfNumbers x.condition
   pub line : x.line < 2 ^ 31
   pub begins : x.head.line < 2 ^ 31
   pub level : x.head.level ≡ 1
   pub later : main.number ≤ x.head.number
   pub bare : IsBare program x.head
   pub fit : Fit program ns all main true false x.body
-
-condition_is : (c : Condition) → is_of_numbers c ≡ true → IsOfNumbers c
-condition_is C.FixedOverflow h = inl refl
-condition_is C.ZeroDivide h = inr refl
-condition_is C.Area h = absurd (cc h)
-condition_is C.Endfile h = absurd (cc h)
-condition_is C.Error h = absurd (cc h)
-
-pub not_error : {c : Condition} → c ≡ C.Error → IsOfNumbers c → ⊥
-not_error e (inl is) = absurd (cc (sym e ∙ is))
-not_error e (inr is) = absurd (cc (sym e ∙ is))
 
 pub none_of : {A : Type 0} (xs : List A) → has_none xs ≡ true → xs ≡ []
 none_of [] h = refl
@@ -110,14 +93,12 @@ unit_is program ns main all x h =
     let four = nat_le main.number x.head.number && five in
     let three = (x.head.level == 1) && four in
     let two = is_line x.head.line && three in
-    let a = and_parts (is_of_numbers x.condition) (is_line x.line && two) h in
-    let b = and_parts (is_line x.line) two a.1 in
+    let b = and_parts (is_line x.line) two h in
     let c = and_parts (is_line x.head.line) three b.1 in
     let d = and_parts (x.head.level == 1) four c.1 in
     let e = and_parts (nat_le main.number x.head.number) five d.1 in
     let f = and_parts bare body e.1 in
     record {
-      condition = condition_is x.condition a.0;
       line = ltb-true x.line (2 ^ 31) b.0;
       begins = ltb-true x.head.line (2 ^ 31) c.0;
       level = eqb-true x.head.level 1 d.0;

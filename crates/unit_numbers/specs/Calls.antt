@@ -35,12 +35,37 @@ abbrev mutual
 abbrev pub has_unit : Condition → Y.Stmts → Bool
 has_unit c body = list_any (λ x. same_condition x.condition c) (all_units_in body)
 
+-- ---- whether one of them jumps
+
+abbrev mutual
+  pub jumps_in : Y.Stmt → Bool
+  jumps_in (Y.Goto level label line) = true
+  jumps_in (Y.If condition unit line) = jumps_in unit
+  jumps_in (Y.IfElse condition unit otherwise line) = jumps_in unit || jumps_in otherwise
+  jumps_in (Y.Do body line) = jump_in body
+  jumps_in (Y.DoWhile condition body line) = jump_in body
+  jumps_in (Y.DoOnce variable start condition body line) = jump_in body
+  jumps_in (Y.DoCount counter start limit step condition body line) = jump_in body
+  jumps_in _ = false
+
+  pub jump_in : Y.Stmts → Bool
+  jump_in (Y.EndOfList own) = false
+  jump_in (Y.StmtThen own first rest) = jumps_in first || jump_in rest
+
+abbrev pub has_jumps : Y.Stmts → Bool
+has_jumps all = list_any (λ x. jump_in x.body) (all_units_in all)
+
 -- ---- blocks
 
--- a block whose statements may name the variables that a block may name, and call what that may: itself, or the main
--- procedure, of which it is a unit. It writes numbers, and then raises no condition for which the main procedure's list
--- has a unit, so that none is raised while a place in a format list is in use; or it writes none. A unit doesn't
--- return, and may jump to the labels of that list.
+-- the main procedure's own list, to whose labels units jump: a place in a format list of it would be dropped
+abbrev pub is_jumped_to : (caller : Y.BlockHead) → (unit : Bool) → (all : Y.Stmts) → Bool
+is_jumped_to caller unit all = not unit && ((caller.level == 0) && has_jumps all)
+
+-- a block whose statements may name the variables that a block may name, and call what that may: itself, or the
+-- main procedure, of which it is a unit. It may write numbers, or it writes none. The main procedure's own list, if
+-- units jump to its labels, writes nothing that raises a condition for which it has a unit, so that no place in a
+-- format list is in use there: nothing at all with a unit for ERROR, which writing raises. A unit doesn't return,
+-- and may jump to the labels of that list.
 abbrev pub scope_in :
     Y.Program → List ℕ → (all : Y.Stmts) → (caller : Y.BlockHead) → (unit writes : Bool) → Scope
 scope_in program ns all caller unit writes =
@@ -57,15 +82,17 @@ scope_in program ns all caller unit writes =
       is_given_function = λ count level n. false;
       is_given_procedure = λ count level n. false;
       counts = true;
-      puts = writes;
-      overflows = not (writes && has_unit C.FixedOverflow all);
-      divides = not (writes && has_unit C.ZeroDivide all);
+      puts = writes && not (is_jumped_to caller unit all && has_unit C.Error all);
+      overflows = not (writes && (is_jumped_to caller unit all && has_unit C.FixedOverflow all));
+      divides = not (writes && (is_jumped_to caller unit all && has_unit C.ZeroDivide all));
       narrows = true;
       texts = false;
       elements = true;
       own = not unit;
-      is_outer = λ level label. unit && ((level == caller.level) && is_among label (labels_in all));
+      is_outer = λ level label.
+          unit && (has_jumps all && ((level == caller.level) && is_among label (labels_in all)));
       signals = λ c. true;
+      codes = true;
     }
 
 -- it does one or the other

@@ -12,3 +12,7 @@ pub mod WrapRows
 pub mod AgainRows
 pub mod ClimbRows
 pub mod TallyRows
+pub mod RescueRows
+pub mod HaltRows
+pub mod TollRows
+pub mod PleadRows

@@ -1,5 +1,4 @@
--- Programs of numbers whose main procedure has ON FIXEDOVERFLOW or ON ZERODIVIDE, as a class that is computed from
--- typed trees.
+-- Programs of numbers whose main procedure has ON, as a class that is computed from typed trees.
 use Rattle.std.specs.Prelude.{ℕ, ◌&&◌, ◌||◌, ◌==◌, Bool, true, false, List, [], ◌∷◌, ◌++◌, nat_le, not}
 use Rattle.pli_typing.specs.TypedTree as Y
 use Rattle.pli_meaning.specs.Control.{Label}

@@ -1,7 +1,5 @@
--- On-units of FIXEDOVERFLOW and ZERODIVIDE over numbers, as a class that is computed from typed trees.
+-- On-units over numbers, as a class that is computed from typed trees.
 use Rattle.std.specs.Prelude.{ℕ, ◌&&◌, ◌==◌, Bool, true, false, List, nat_le}
-use Rattle.pli_language.specs.declared.condition.Condition.{Condition}
-use Rattle.pli_language.specs.declared.condition.Condition.TheVariants as C
 use Rattle.pli_typing.specs.TypedTree as Y
 use Rattle.pli_meaning.specs.DeclaredShapes.{variables_of_block}
 use Rattle.unit_runs.specs.Establishing.{OnUnit}
@@ -9,24 +7,18 @@ use Rattle.number_runs.specs.Numbers.{has_none}
 use Rattle.number_runs.specs.Statements.{is_line}
 use Rattle.unit_numbers.specs.Calls.{is_body_in}
 
--- for a condition that numbers raise
-abbrev pub is_of_numbers : Condition → Bool
-is_of_numbers C.FixedOverflow = true
-is_of_numbers C.ZeroDivide = true
-is_of_numbers _ = false
-
 -- a single statement, or a BEGIN block that declares nothing
 abbrev pub is_bare : Y.Program → Y.BlockHead → Y.BlockKind → Bool
 is_bare program head Y.SimpleUnit = true
 is_bare program head Y.UnitBlock = has_none (variables_of_block program head.number)
 is_bare program head _ = false
 
--- a unit of the main procedure, which has this list and calls these: it may name what that names, and call these
+-- a unit of the main procedure for whichever condition, which has this list and calls these: it may name what that
+-- names, and call these
 abbrev pub is_unit : Y.Program → List ℕ → (main : Y.BlockHead) → (all : Y.Stmts) → OnUnit → Bool
 is_unit program ns main all x =
-    is_of_numbers x.condition
-    && (is_line x.line
+    is_line x.line
     && (is_line x.head.line
     && ((x.head.level == 1)
     && (nat_le main.number x.head.number
-    && (is_bare program x.head x.head.kind && is_body_in program ns all main true false x.body)))))
+    && (is_bare program x.head x.head.kind && is_body_in program ns all main true false x.body))))

@@ -5,11 +5,15 @@ ghost use Rattle.unit_numbers.specs.ClimbRows.{ClimbKept};
 ghost use Rattle.unit_numbers.specs.GroupRows.{GroupKept};
 ghost use Rattle.unit_numbers.specs.GuardRows.{GuardKept};
 ghost use Rattle.unit_numbers.specs.HailRows.{HailKept};
+ghost use Rattle.unit_numbers.specs.HaltRows.{HaltKept};
 ghost use Rattle.unit_numbers.specs.Headlines.{UnitNumberHeadlinesKept};
 ghost use Rattle.unit_numbers.specs.MendRows.{MendKept};
+ghost use Rattle.unit_numbers.specs.PleadRows.{PleadKept};
+ghost use Rattle.unit_numbers.specs.RescueRows.{RescueKept};
 ghost use Rattle.unit_numbers.specs.Rows.{HealKept};
 ghost use Rattle.unit_numbers.specs.ShiftRows.{ShiftKept};
 ghost use Rattle.unit_numbers.specs.TallyRows.{TallyKept};
+ghost use Rattle.unit_numbers.specs.TollRows.{TollKept};
 ghost use Rattle.unit_numbers.specs.WrapRows.{WrapKept};
 
 use block_headlines::laws::unit_headlines_kept;
@@ -91,6 +95,34 @@ pub fn tally_kept()
 /// A worked row: a FIXED BINARY(15) variable that is raised over its limit, and wraps, since a unit returns.
 pub fn wrap_kept()
     ensures { WrapKept }
+{
+    unit_number_headlines_kept();
+}
+
+/// A worked row: a unit for ERROR, which reads ONCODE and leaves by a jump.
+pub fn rescue_kept()
+    ensures { RescueKept }
+{
+    unit_number_headlines_kept();
+}
+
+/// A worked row: a unit for ERROR that returns, behind which the run ends, and one for FIXEDOVERFLOW.
+pub fn halt_kept()
+    ensures { HaltKept }
+{
+    unit_number_headlines_kept();
+}
+
+/// A worked row: ONCODE in a unit, in one that is raised in it, and in neither.
+pub fn toll_kept()
+    ensures { TollKept }
+{
+    unit_number_headlines_kept();
+}
+
+/// A worked row: a unit for ERROR that is raised while a procedure writes, writes itself, and leaves both by a jump.
+pub fn plead_kept()
+    ensures { PleadKept }
 {
     unit_number_headlines_kept();
 }

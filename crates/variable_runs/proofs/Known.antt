@@ -26,32 +26,33 @@ use Rattle.program_runs.specs.Statements.{Block, IsBegun}
 use Rattle.program_runs.specs.Variables.{Declared, generation_for}
 use Rattle.expression_runs.specs.Variables.{IsNumber, Spot, number_declared, number_place}
 use Rattle.variable_runs.specs.Known.{IsKnown, IsOwn, place_of}
-use Rattle.variable_runs.specs.Lists.{Among, AreAll, AreDeclared, AreListed, Declares, all_made, behind_made}
+use Rattle.variable_runs.specs.Lists.{AllMayBegin, Among, AreAll, AreAllBegun, AreListed, MayBegin, all_made}
+use Rattle.variable_runs.specs.Lists.{behind_made}
 use Rattle.variable_runs.specs.Lists.{layer_after, layer_behind}
-use Rattle.variable_runs.proofs.Lists.{Binds, layers_after}
+use Rattle.variable_runs.proofs.Lists.{Binds, all_without, layers_after}
 
 -- ---- at a point
 
 -- the newest activation has it: its frame is at an offset, and its part of the upper stack ends below another
-record Has (q : Point) (at lower : ℕ) (a : Activation) (as' : List Activation) (d : Declared) : Type 0 where
-  serial : ℕ
-  given : serial ≤ q.state.serials
-  binds : Binds q a as'
-  bound :
+pub record Has (q : Point) (at lower : ℕ) (a : Activation) (as' : List Activation) (d : Declared) : Type 0 where
+  pub serial : ℕ
+  pub given : serial ≤ q.state.serials
+  pub binds : Binds q a as'
+  pub bound :
       binding_of binds.bindings d.index
       ≡ Some (record { variable = d.index; name = VariableName serial; shape = shape_of [] d.declared })
-  living : Living
-  lives : living_of q.state.living serial ≡ Some living
-  shape : living.generation.shape ≡ shape_of [] d.declared
-  place : q.places.at serial ≡ at + (d.place + name_bytes)
-  inside : at + (d.place + name_bytes + data_size (shape_of [] d.declared).signature) ≤ lower
+  pub living : Living
+  pub lives : living_of q.state.living serial ≡ Some living
+  pub shape : living.generation.shape ≡ shape_of [] d.declared
+  pub place : q.places.at serial ≡ at + (d.place + name_bytes)
+  pub inside : at + (d.place + name_bytes + data_size (shape_of [] d.declared).signature) ≤ lower
 
 -- where it has just been made
 has_new :
-    (w : Surroundings) (p : Point) (φ : Layer) (φs : List Layer) (a : Activation) (as' : List Activation)
-    (d : Declared) → Binds p a as' → Declares w p d φ φs →
+    (w : Surroundings) (code : List Instr) (p : Point) (φ : Layer) (φs : List Layer) (a : Activation)
+    (as' : List Activation) (d : Declared) → Binds p a as' → MayBegin w code p d φ φs →
     Has (behind_made w.parts φ d p) φ.at φ.lower a as' d
-has_new w p φ φs a as' d binds is =
+has_new w code p φ φs a as' d binds is =
     let serial = p.state.serials + 1 in
     let b : Binding = record {
       variable = d.index;
@@ -72,7 +73,7 @@ has_new w p φ φs a as' d binds is =
     }
   where
     inside :
-        Declares w p d φ φs →
+        MayBegin w code p d φ φs →
         φ.at + (d.place + name_bytes + data_size (shape_of [] d.declared).signature) ≤ φ.lower
     inside (inl h) = let size = h.size in let fits = h.fits in omega (arith, size, fits)
     inside (inr h) = let size = h.size in let fits = h.fits in omega (arith, size, fits)
@@ -120,24 +121,24 @@ has_kept w e p φ at lower a as' d (y ∷ xs) n less listed h =
     (has_still w p φ at lower a as' d y (omega (arith, less, late)) h)
 
 -- so it has each of them
-has_each :
-    (w : Surroundings) (e : Environment) (p : Point) (φ : Layer) (φs : List Layer) (a : Activation)
+pub has_each :
+    (w : Surroundings) (code : List Instr) (e : Environment) (p : Point) (φ : Layer) (φs : List Layer) (a : Activation)
     (as' : List Activation) (d : Declared) (xs : List Declared) (n : ℕ) → AreListed e n xs →
-    AreDeclared w p φ φs xs → Binds p a as' → Among d xs → Has (all_made w.parts φ xs p) φ.at φ.lower a as' d
-has_each w e p φ φs a as' d [] n listed are binds among = absurd among
-has_each w e p φ φs a as' d (x ∷ xs) n listed are binds (inl same) =
+    AllMayBegin w code p φ φs xs → Binds p a as' → Among d xs → Has (all_made w.parts φ xs p) φ.at φ.lower a as' d
+has_each w code e p φ φs a as' d [] n listed are binds among = absurd among
+has_each w code e p φ φs a as' d (x ∷ xs) n listed are binds (inl same) =
     subst (λ y. Has (all_made w.parts φ (x ∷ xs) p) φ.at φ.lower a as' y) (sym same)
     (has_kept w e (behind_made w.parts φ x p) (layer_behind w.parts (p.state.serials + 1) φ x) φ.at φ.lower a as' x
-    xs (x.index + 1) (omega arith) listed.1 (has_new w p φ φs a as' x binds are.0))
-has_each w e p φ φs a as' d (x ∷ xs) n listed are binds (inr there) =
-    let new = has_new w p φ φs a as' x binds are.0 in
-    has_each w e (behind_made w.parts φ x p) (layer_behind w.parts (p.state.serials + 1) φ x) φs a as' d xs
+    xs (x.index + 1) (omega arith) listed.1 (has_new w code p φ φs a as' x binds are.0))
+has_each w code e p φ φs a as' d (x ∷ xs) n listed are binds (inr there) =
+    let new = has_new w code p φ φs a as' x binds are.0 in
+    has_each w code e (behind_made w.parts φ x p) (layer_behind w.parts (p.state.serials + 1) φ x) φs a as' d xs
     (x.index + 1) listed.1 are.1 new.binds there
 
 -- ---- in its block
 
 -- the newest activation's own
-newest_has :
+pub newest_has :
     (a : Activation) (as' : List Activation) (bindings : List Binding) (level index : ℕ) → level ≡ a.level →
     binding_in (ancestor (record a { bindings = bindings } ∷ as') a.height level) index ≡ binding_of bindings index
 newest_has a as' bindings level index own =
@@ -147,17 +148,17 @@ newest_has a as' bindings level index own =
     (eq-eqb a.height a.height refl)
     ∙ ap (λ t. binding_in (cond t (Some new) rest) index) (eq-eqb a.level level (sym own))
 
-layer_stays :
+pub layer_stays :
     (parts : MemoryParts) (serial : ℕ) (φ : Layer) (xs : List Declared) →
     ((layer_after parts serial φ xs).at ≡ φ.at) × ((layer_after parts serial φ xs).lower ≡ φ.lower)
 layer_stays parts serial φ [] = (refl, refl)
 layer_stays parts serial φ (x ∷ xs) = layer_stays parts (serial + 1) (layer_behind parts serial φ x) xs
 
-pub known_own :
+pub known_begun :
     (w : Surroundings) (code : List Instr) (c : Callee) (p : Point) (numbers : ℕ → ℕ) (xs : List Declared)
-    (d : Declared) (x : Spot) → HasParts w.parts → AreAll w c p numbers xs → Among d xs → IsOwn c d x →
+    (d : Declared) (x : Spot) → HasParts w.parts → AreAllBegun w code c p numbers xs → Among d xs → IsOwn c d x →
     IsBegun (block_at w code c p numbers) → IsKnown (block_at w code c p numbers) x d.declared
-known_own w code c p numbers xs d x parts h among own b =
+known_begun w code c p numbers xs d x parts h among own b =
     record {
       declared = own.declared;
       serial = has.serial;
@@ -205,7 +206,7 @@ known_own w code c p numbers xs d x parts h among own b =
 
     has : Has q φ.at φ.lower a p.state.activations d
     has =
-        has_each w c.environment start φ p.control.layers a p.state.activations d xs 0 h.listed h.declared
+        has_each w code c.environment start φ p.control.layers a p.state.activations d xs 0 h.listed h.declared
         (record { bindings = []; active = refl }) among
 
     active : (c.made start).state.activations ≡ record a { bindings = has.binds.bindings } ∷ p.state.activations
@@ -239,6 +240,14 @@ known_own w code c p numbers xs d x parts h among own b =
 
     inside : φ.at + (d.place + name_bytes + data_size (shape_of [] d.declared).signature) ≤ φ.lower
     inside = has.inside
+
+-- nothing is given to any of them
+pub known_own :
+    (w : Surroundings) (code : List Instr) (c : Callee) (p : Point) (numbers : ℕ → ℕ) (xs : List Declared)
+    (d : Declared) (x : Spot) → HasParts w.parts → AreAll w c p numbers xs → Among d xs → IsOwn c d x →
+    IsBegun (block_at w code c p numbers) → IsKnown (block_at w code c p numbers) x d.declared
+known_own w code c p numbers xs d x parts h among own b =
+    known_begun w code c p numbers xs d x parts (all_without w code c p numbers xs h) among own b
 
 -- ---- a number
 

@@ -1,7 +1,8 @@
 -- Variables that are made one behind the other: a procedure makes all that it declares.
-use Rattle.std.proofs.Common.{◌≡◌, ℕ, ◌+◌, ◌<◌, ◌≤◌, inl, inr, List, [], ◌∷◌, length, Some, false, refl, sym, ap, ◌∙◌}
-use Rattle.std.proofs.Common.{subst, arith}
-use Rattle.std.specs.Prelude.{pos}
+use Rattle.std.proofs.Common.{◌≡◌, ℕ, ◌+◌, ◌^◌, ◌<◌, ◌≤◌, inl, inr, List, [], ◌∷◌, length, Some, false, refl}
+use Rattle.std.proofs.Common.{sym, ap, ◌∙◌, subst, arith}
+use Rattle.std.specs.Prelude.{Bool, nat_lt, pos, true}
+use Rattle.std.proofs.lemmas.Bool.{lt-ltb, ltb-true}
 use Rattle.rv_meaning.specs.declared.instr.Instr.{Instr}
 use Rattle.pli_typing.specs.TypedTree as Y
 use Rattle.pli_meaning.specs.BasicValues.{VariableName}
@@ -36,72 +37,94 @@ use Rattle.run_steps.proofs.Reach.{reach_then, reached_holds, stay}
 use Rattle.block_runs.specs.Machines.{AreIn, IsImage, IsIn}
 use Rattle.program_runs.specs.Calls.{AreMade, Callee, act_index, begun_at, variables_index}
 use Rattle.program_runs.specs.Procedures.{beginning_for, layer_for}
-use Rattle.program_runs.specs.Names.{named_of}
-use Rattle.program_runs.specs.Variables.{Declared, IsDeclared, generation_for, made_of}
-use Rattle.program_runs.proofs.Variables.{becomes_comes, made_becomes, variable_means}
+use Rattle.program_runs.specs.Initial.{MayBeMade}
+use Rattle.program_runs.specs.Variables.{Declared, generation_for, made_of}
+use Rattle.program_runs.proofs.Names.{begun_comes, begun_stands}
+use Rattle.program_runs.proofs.Variables.{made_becomes, started_comes, started_means, without_initial}
 use Rattle.variable_runs.specs.Areas.{IsArea}
-use Rattle.variable_runs.specs.Lists.{AreAll, AreDeclared, AreListed, AreThose, Declares, all_made, behind_made}
-use Rattle.variable_runs.specs.Lists.{layer_after, layer_behind, made_code, made_now, told_by}
+use Rattle.variable_runs.specs.Lists.{AllMayBegin, AreAll, AreAllBegun, AreDeclared, AreListed, AreThose, Declares}
+use Rattle.variable_runs.specs.Lists.{MayBegin, all_made, behind_made}
+use Rattle.variable_runs.specs.Lists.{layer_after, layer_behind, made_code, made_now, told_if}
 use Rattle.variable_runs.proofs.AreaMemory as A
 use Rattle.variable_runs.proofs.AreaVariables.{area_comes, area_means}
 
 -- ---- one of them
 
--- what is told then of a variable of values, and of an area
-values_now :
-    (w : Surroundings) (p : Point) (x : Declared) (φ : Layer) (φs : List Layer) → IsDeclared w p x φ φs →
-    with_made (made_of w.parts φ x) p ≡ behind_made w.parts φ x p
-values_now w p x φ φs is =
-    sym (ap (λ o. with_made (record (made_of w.parts φ x) { told = told_by o x.place (p.state.serials + 1) φ.told }) p)
-    is.fixed)
+-- what is told then, by whether its serial number has two words
+pub now_is :
+    (w : Surroundings) (p : Point) (x : Declared) (φ : Layer) (q : Bool) → nat_lt (p.state.serials + 1) (2 ^ 64) ≡ q →
+    with_made (record (made_of w.parts φ x) { told = told_if q x.place (p.state.serials + 1) φ.told }) p
+    ≡ behind_made w.parts φ x p
+now_is w p x φ q e =
+    ap (λ t. with_made (record (made_of w.parts φ x) { told = told_if t x.place (p.state.serials + 1) φ.told }) p)
+    (sym e)
 
-area_now :
-    (w : Surroundings) (p : Point) (x : Declared) (φ : Layer) (φs : List Layer) → IsArea w p x φ φs →
-    with_made (named_of w.parts (p.state.serials + 1) φ x) p ≡ behind_made w.parts φ x p
-area_now w p x φ φs is =
-    sym (ap (λ o. with_made (record (made_of w.parts φ x) { told = told_by o x.place (p.state.serials + 1) φ.told }) p)
-    is.fixed)
+-- that of an area has
+area_few :
+    {w : Surroundings} {p : Point} {x : Declared} {φ : Layer} {φs : List Layer} → IsArea w p x φ φs →
+    nat_lt (p.state.serials + 1) (2 ^ 64) ≡ true
+area_few is = lt-ltb _ (2 ^ 64) is.serial
 
-next_stands :
+pub next_stands :
     (w : Surroundings) (code : List Instr) (p : Point) (x : Declared) (φ : Layer) (φs : List Layer) →
-    Stands w p × IsImage w code p → Declares w p x φ φs →
+    Stands w p × IsImage w code p → MayBegin w code p x φ φs →
     Stands w (behind_made w.parts φ x p) × IsImage w code (behind_made w.parts φ x p)
-next_stands w code p x φ φs known (inl is) =
-    subst (λ q. Stands w q × IsImage w code q) (values_now w p x φ φs is)
-    (made_becomes (record { stands = known.0; image = known.1; is = is })).stands
+next_stands w code p x φ φs known (inl is) = by (nat_lt (p.state.serials + 1) (2 ^ 64)) refl
+  where
+    by :
+        (q : Bool) → nat_lt (p.state.serials + 1) (2 ^ 64) ≡ q →
+        Stands w (behind_made w.parts φ x p) × IsImage w code (behind_made w.parts φ x p)
+    by true e =
+        subst (λ q. Stands w q × IsImage w code q) (now_is w p x φ true e) (begun_stands w code p x φ φs known is)
+    by false e =
+        subst (λ q. Stands w q × IsImage w code q) (now_is w p x φ false e)
+        (made_becomes (record { stands = known.0; image = known.1; is = is })).stands
 next_stands w code p x φ φs known (inr is) =
-    subst (λ q. Stands w q × IsImage w code q) (area_now w p x φ φs is)
+    subst (λ q. Stands w q × IsImage w code q) (now_is w p x φ true (area_few is))
     (A.made_stands (record { stands = known.0; image = known.1; is = is }))
 
-next_comes :
+pub next_comes :
     (w : Surroundings) (code : List Instr) (e : Environment) (p : Point) (numbers : ℕ → ℕ) (x : Declared) (φ : Layer)
-    (φs : List Layer) (c index : ℕ) (f : Family) → Stands w p × IsImage w code p → Declares w p x φ φs →
+    (φs : List Layer) (c index : ℕ) (f : Family) → Stands w p × IsImage w code p → MayBegin w code p x φ φs →
     (table_number e x.declared ≡ x.number) × (e.parts ≡ w.parts) →
     Linked w.links code index (constant_made e x.place x.declared) → AreIn w p numbers index f →
     Reach code c f (services_of p) (c + size_of (constant_made e x.place x.declared))
     (services_of (behind_made w.parts φ x p))
     (λ b y. IsIn w (behind_made w.parts φ x p) numbers (index + size_of (constant_made e x.place x.declared)) b y)
 next_comes w code e p numbers x φ φs c index f known (inl is) same l there =
-    subst (λ q. Reach code c f (services_of p) (c + size_of (constant_made e x.place x.declared)) (services_of q)
-    (λ b y. IsIn w q numbers (index + size_of (constant_made e x.place x.declared)) b y)) (values_now w p x φ φs is)
-    (becomes_comes w code e p (with_made (made_of w.parts φ x) p) numbers x φ φs c index f known is
-    (made_becomes (record { stands = known.0; image = known.1; is = is })) same l there)
+    by (nat_lt (p.state.serials + 1) (2 ^ 64)) refl
+  where
+    by :
+        (q : Bool) → nat_lt (p.state.serials + 1) (2 ^ 64) ≡ q →
+        Reach code c f (services_of p) (c + size_of (constant_made e x.place x.declared))
+        (services_of (behind_made w.parts φ x p))
+        (λ b y. IsIn w (behind_made w.parts φ x p) numbers (index + size_of (constant_made e x.place x.declared)) b y)
+    by true e' =
+        subst (λ q. Reach code c f (services_of p) (c + size_of (constant_made e x.place x.declared)) (services_of q)
+        (λ b y. IsIn w q numbers (index + size_of (constant_made e x.place x.declared)) b y)) (now_is w p x φ true e')
+        (begun_comes w code e p numbers x φ φs c index f known is (ltb-true _ (2 ^ 64) e') same l there)
+    by false e' =
+        subst (λ q. Reach code c f (services_of p) (c + size_of (constant_made e x.place x.declared)) (services_of q)
+        (λ b y. IsIn w q numbers (index + size_of (constant_made e x.place x.declared)) b y)) (now_is w p x φ false e')
+        (started_comes w code e p numbers x φ φs c index f known is same l there)
 next_comes w code e p numbers x φ φs c index f known (inr is) same l there =
     subst (λ q. Reach code c f (services_of p) (c + size_of (constant_made e x.place x.declared)) (services_of q)
-    (λ b y. IsIn w q numbers (index + size_of (constant_made e x.place x.declared)) b y)) (area_now w p x φ φs is)
+    (λ b y. IsIn w q numbers (index + size_of (constant_made e x.place x.declared)) b y))
+    (now_is w p x φ true (area_few is))
     (area_comes w code e p numbers x φ φs c index f known is same l there)
 
-next_means :
-    (w : Surroundings) (p : Point) (x : Declared) (φ : Layer) (φs : List Layer) (acts : ℕ) → Declares w p x φ φs →
+pub next_means :
+    (w : Surroundings) (code : List Instr) (p : Point) (x : Declared) (φ : Layer) (φs : List Layer) (acts : ℕ) →
+    MayBegin w code p x φ φs →
     K.variable_made x.index (generation_for x) acts p.state ≡ Normal tt (behind_made w.parts φ x p).state
-next_means w p x φ φs acts (inl is) = variable_means w p x φ φs acts is
-next_means w p x φ φs acts (inr is) = area_means w p x φ φs acts is
+next_means w code p x φ φs acts (inl is) = started_means w code p x φ φs acts is
+next_means w code p x φ φs acts (inr is) = area_means w p x φ φs acts is
 
 next_shape :
-    (w : Surroundings) (p : Point) (x : Declared) (φ : Layer) (φs : List Layer) → Declares w p x φ φs →
-    shape_at p.places.signatures x.number ≡ Some (shape_of [] x.declared)
-next_shape w p x φ φs (inl is) = is.shape
-next_shape w p x φ φs (inr is) = is.shape
+    (w : Surroundings) (code : List Instr) (p : Point) (x : Declared) (φ : Layer) (φs : List Layer) →
+    MayBegin w code p x φ φs → shape_at p.places.signatures x.number ≡ Some (shape_of [] x.declared)
+next_shape w code p x φ φs (inl is) = is.shape
+next_shape w code p x φ φs (inr is) = is.shape
 
 -- the newest block's layer, once it has been made
 pub next_layers :
@@ -110,19 +133,20 @@ pub next_layers :
 next_layers w p x φ φs newest = ap (λ ls. newest_grown (made_now w.parts (p.state.serials + 1) φ x) ls) newest
 
 next_lives :
-    (w : Surroundings) (p : Point) (x : Declared) (φ : Layer) (φs : List Layer) → Declares w p x φ φs →
+    (w : Surroundings) (code : List Instr) (p : Point) (x : Declared) (φ : Layer) (φs : List Layer) →
+    MayBegin w code p x φ φs →
     Lives p.places p.state → Lives (behind_made w.parts φ x p).places (behind_made w.parts φ x p).state
-next_lives w p x φ φs is lives =
+next_lives w code p x φ φs is lives =
     let l = K.living_at (p.state.serials + 1) (newest_height p.state.activations) (generation_for x) in
-    let h = lives_added p.places p.state l (made_of w.parts φ x).place x.number refl refl (next_shape w p x φ φs is)
-    lives in
+    let h = lives_added p.places p.state l (made_of w.parts φ x).place x.number refl refl
+    (next_shape w code p x φ φs is) lives in
     record { falling = h.falling; numbered = h.numbered; extents = h.extents }
 
 -- ---- all of them
 
 pub all_stand :
     (w : Surroundings) (code : List Instr) (p : Point) (φ : Layer) (φs : List Layer) (xs : List Declared) →
-    AreDeclared w p φ φs xs → Stands w p × IsImage w code p →
+    AllMayBegin w code p φ φs xs → Stands w p × IsImage w code p →
     Stands w (all_made w.parts φ xs p) × IsImage w code (all_made w.parts φ xs p)
 all_stand w code p φ φs [] are known = known
 all_stand w code p φ φs (x ∷ xs) are known =
@@ -140,7 +164,7 @@ moved_in {w} {code} {numbers} {k} {c} {c'} {i} {i'} {f} {v} q credits index r =
 
 pub all_come :
     (w : Surroundings) (code : List Instr) (e : Environment) (p : Point) (numbers : ℕ → ℕ) (φ : Layer)
-    (φs : List Layer) (xs : List Declared) (n c index : ℕ) (f : Family) → AreDeclared w p φ φs xs →
+    (φs : List Layer) (xs : List Declared) (n c index : ℕ) (f : Family) → AllMayBegin w code p φ φs xs →
     AreListed e n xs → e.parts ≡ w.parts → Stands w p × IsImage w code p →
     Linked w.links code index (made_code e xs) → AreIn w p numbers index f →
     Reach code c f (services_of p) (c + size_of (made_code e xs)) (services_of (all_made w.parts φ xs p))
@@ -176,27 +200,28 @@ unmade around n acts d Y.BasedClass s e = refl
 unmade around n acts d Y.ControlledClass s e = refl
 
 pub all_mean :
-    (around : Around) (w : Surroundings) (e : Environment) (p : Point) (φ : Layer) (φs : List Layer)
-    (xs : List Declared) (ds : List Y.DeclaredVariable) (n m acts : ℕ) → AreDeclared w p φ φs xs → AreListed e m xs →
+    (around : Around) (w : Surroundings) (code : List Instr) (e : Environment) (p : Point) (φ : Layer) (φs : List Layer)
+    (xs : List Declared) (ds : List Y.DeclaredVariable) (n m acts : ℕ) → AllMayBegin w code p φ φs xs →
+    AreListed e m xs →
     AreThose n xs ds → K.variables_made around n ds acts p.state ≡ Normal tt (all_made w.parts φ xs p).state
 unfolding K.variables_made K.automatic_made K.extents give ◌>>=◌ ◌>>◌
-all_mean around w e p φ φs [] [] n m acts are listed those = refl
-all_mean around w e p φ φs (x ∷ xs) [] n m acts are listed those = absurd those
-all_mean around w e p φ φs [] (d ∷ ds) n m acts are listed those =
+all_mean around w code e p φ φs [] [] n m acts are listed those = refl
+all_mean around w code e p φ φs (x ∷ xs) [] n m acts are listed those = absurd those
+all_mean around w code e p φ φs [] (d ∷ ds) n m acts are listed those =
     ap (λ flow. flow_on acts flow (λ u. K.variables_made around (n + 1) ds))
     (unmade around n acts d d.class p.state those.0)
-    ∙ all_mean around w e p φ φs [] ds (n + 1) m acts are listed those.1
-all_mean around w e p φ φs (x ∷ xs) (d ∷ ds) n m acts are listed (inr those) =
+    ∙ all_mean around w code e p φ φs [] ds (n + 1) m acts are listed those.1
+all_mean around w code e p φ φs (x ∷ xs) (d ∷ ds) n m acts are listed (inr those) =
     ap (λ flow. flow_on acts flow (λ u. K.variables_made around (n + 1) ds))
     (unmade around n acts d d.class p.state those.0)
-    ∙ all_mean around w e p φ φs (x ∷ xs) ds (n + 1) m acts are listed those.1
-all_mean around w e p φ φs (x ∷ xs) (d' ∷ ds) n m acts are listed (inl those) =
+    ∙ all_mean around w code e p φ φs (x ∷ xs) ds (n + 1) m acts are listed those.1
+all_mean around w code e p φ φs (x ∷ xs) (d' ∷ ds) n m acts are listed (inl those) =
     let d = x.declared in
     let s = p.state in
     let q = behind_made w.parts φ x p in
     let made : K.variable_made n (generation_for x) acts s ≡ Normal tt q.state =
     ap (λ i. K.variable_made i (generation_for x) acts s) (sym those.0)
-    ∙ next_means w p x φ φs acts are.0 in
+    ∙ next_means w code p x φ φs acts are.0 in
     ap (λ u. K.variables_made around n (u ∷ ds) acts s) those.1
     ∙ ap (λ c. flow_on acts (K.automatic_made around n d c acts s) (λ u. K.variables_made around (n + 1) ds))
     listed.0.class
@@ -204,7 +229,7 @@ all_mean around w e p φ φs (x ∷ xs) (d' ∷ ds) n m acts are listed (inl tho
     (λ values. K.variable_made n (fresh (shape_of values d) (pos 0) (initial_of d))))
     (λ u. K.variables_made around (n + 1) ds)) listed.0.evaluations
     ∙ ap (λ flow. flow_on acts flow (λ u. K.variables_made around (n + 1) ds)) made
-    ∙ all_mean around w e q (layer_behind w.parts (p.state.serials + 1) φ x) φs xs ds (n + 1) (x.index + 1) acts
+    ∙ all_mean around w code e q (layer_behind w.parts (p.state.serials + 1) φ x) φs xs ds (n + 1) (x.index + 1) acts
     are.1 listed.1 those.2
 
 pub block_means :
@@ -254,17 +279,18 @@ all_bind w p φ (x ∷ xs) a as' h =
     (record { bindings = b ∷ h.bindings; active = ap (λ us. with_binding b us) h.active })
 
 pub all_remain :
-    (w : Surroundings) (r p : Point) (φ : Layer) (φs : List Layer) (xs : List Declared) (a : Activation)
-    (as' : List Activation) → AreDeclared w p φ φs xs → Binds p a as' → length r.state.activations < a.height →
+    (w : Surroundings) (code : List Instr) (r p : Point) (φ : Layer) (φs : List Layer) (xs : List Declared)
+    (a : Activation) (as' : List Activation) → AllMayBegin w code p φ φs xs → Binds p a as' →
+    length r.state.activations < a.height →
     Lives p.places p.state → Remains r p → Remains r (all_made w.parts φ xs p)
-all_remain w r p φ φs [] a as' are binds above lives remains = remains
-all_remain w r p φ φs (x ∷ xs) a as' are binds above lives remains =
+all_remain w code r p φ φs [] a as' are binds above lives remains = remains
+all_remain w code r p φ φs (x ∷ xs) a as' are binds above lives remains =
     let m = made_now w.parts (p.state.serials + 1) φ x in
     let q = with_made m p in
     let height = ap newest_height binds.active in
     let one = all_bind w p φ (x ∷ []) a as' binds in
-    all_remain w r q (layer_behind w.parts (p.state.serials + 1) φ x) φs xs a as' are.1 one above
-    (next_lives w p x φ φs are.0 lives)
+    all_remain w code r q (layer_behind w.parts (p.state.serials + 1) φ x) φs xs a as' are.1 one above
+    (next_lives w code p x φ φs are.0 lives)
     (remains_made r p m remains lives (omega (arith, height, above)))
 
 pub all_serials :
@@ -294,10 +320,10 @@ called_resumed w c p numbers (x ∷ xs) serial =
     let φ = layer_for w p numbers c.procedure c.calling in
     layer_resumed w.parts (serial + 1) xs (made_now w.parts serial φ x) φ
 
-pub all_procedure :
+pub all_begun :
     (w : Surroundings) (code : List Instr) (c : Callee) (p : Point) (numbers : ℕ → ℕ) (xs : List Declared) →
-    AreAll w c p numbers xs → AreMade w code c p numbers
-all_procedure w code c p numbers xs h =
+    AreAllBegun w code c p numbers xs → AreMade w code c p numbers
+all_begun w code c p numbers xs h =
     let start = begun_at w c p numbers in
     let y = beginning_for w p numbers c.procedure c.calling in
     let φ = layer_for w p numbers c.procedure c.calling in
@@ -322,7 +348,7 @@ all_procedure w code c p numbers xs h =
           (all_come w code c.environment start numbers φ φs xs 0 credits (variables_index c) f h.declared h.listed
           h.parts known (subst (Linked w.links code (variables_index c)) h.code l) there));
       means = block_means (at_line c.around c.procedure.head.line) c.procedure.head w.acts start.state q.state h.kind
-          (all_mean (at_line c.around c.procedure.head.line) w c.environment start φ φs xs
+          (all_mean (at_line c.around c.procedure.head.line) w code c.environment start φ φs xs
           (variables_of_block c.around.program c.procedure.head.number) 0 0 w.acts h.declared h.listed h.those)
           ∙ ap (λ (u : Point). Normal tt u.state) (sym here);
       activation = record a { bindings = bound.bindings };
@@ -335,8 +361,45 @@ all_procedure w code c p numbers xs h =
       idle = ap (λ (u : Point). u.control.waiting) here ∙ same.1;
       world = ap (λ (u : Point). u.state.world) here ∙ same.0;
       remains = λ begun'. subst (λ u. Remains p u) (sym here)
-          (all_remain w p start φ φs xs a p.state.activations h.declared binds (omega arith) begun'.lives
+          (all_remain w code p start φ φs xs a p.state.activations h.declared binds (omega arith) begun'.lives
           (remains_entered p y.head y.entry φ y.head.line));
       few = subst (λ (u : Point). u.state.serials ≤ p.state.serials + w.serials) (sym here)
           (omega (arith, each, count));
     }
+
+-- ---- without INITIAL values
+
+pub declared_begin :
+    (w : Surroundings) (code : List Instr) (p : Point) (φ : Layer) (φs : List Layer) (xs : List Declared) →
+    AreDeclared w p φ φs xs → AllMayBegin w code p φ φs xs
+declared_begin w code p φ φs [] are = tt
+declared_begin w code p φ φs (x ∷ xs) are = (
+  one are.0,
+  declared_begin w code (behind_made w.parts φ x p) (layer_behind w.parts (p.state.serials + 1) φ x) φs xs are.1,
+)
+  where
+    one : Declares w p x φ φs → MayBegin w code p x φ φs
+    one (inl is) = inl (without_initial w code p x φ φs is)
+    one (inr is) = inr is
+
+pub all_without :
+    (w : Surroundings) (code : List Instr) (c : Callee) (p : Point) (numbers : ℕ → ℕ) (xs : List Declared) →
+    AreAll w c p numbers xs → AreAllBegun w code c p numbers xs
+all_without w code c p numbers xs h =
+    record {
+      kind = h.kind;
+      those = h.those;
+      listed = h.listed;
+      code = h.code;
+      made = h.made;
+      parts = h.parts;
+      few = h.few;
+      declared = declared_begin w code (begun_at w c p numbers) (layer_for w p numbers c.procedure c.calling)
+          p.control.layers xs h.declared;
+    }
+
+pub all_procedure :
+    (w : Surroundings) (code : List Instr) (c : Callee) (p : Point) (numbers : ℕ → ℕ) (xs : List Declared) →
+    AreAll w c p numbers xs → AreMade w code c p numbers
+all_procedure w code c p numbers xs h =
+    all_begun w code c p numbers xs (all_without w code c p numbers xs h)

@@ -16,7 +16,7 @@ use Rattle.program_runs.specs.Calls.{Callee, block_at}
 use Rattle.program_runs.specs.Statements.{Block, IsBegun}
 use Rattle.program_runs.specs.Variables.{Declared}
 use Rattle.expression_runs.specs.Variables.{IsFrameOf, IsNumber, Spot, number_declared, variable_of}
-use Rattle.variable_runs.specs.Lists.{Among, AreAll}
+use Rattle.variable_runs.specs.Lists.{Among, AreAll, AreAllBegun}
 
 -- where its name stands in the frame of its block
 abbrev pub place_of : Environment → Spot → ℕ
@@ -53,6 +53,11 @@ pub record VariablesKnown : Type 0 where
   pub own :
       (w : Surroundings) (code : List Instr) (c : Callee) (p : Point) (numbers : ℕ → ℕ) (xs : List Declared)
       (d : Declared) (x : Spot) → HasParts w.parts → AreAll w c p numbers xs → Among d xs → IsOwn c d x →
+      IsBegun (block_at w code c p numbers) → IsKnown (block_at w code c p numbers) x d.declared
+  -- with INITIAL values, too
+  pub begun :
+      (w : Surroundings) (code : List Instr) (c : Callee) (p : Point) (numbers : ℕ → ℕ) (xs : List Declared)
+      (d : Declared) (x : Spot) → HasParts w.parts → AreAllBegun w code c p numbers xs → Among d xs → IsOwn c d x →
       IsBegun (block_at w code c p numbers) → IsKnown (block_at w code c p numbers) x d.declared
   -- and if it is FIXED BINARY(31) it is a number of that
   pub number :

@@ -1,7 +1,7 @@
--- Several variables of constant size and without INITIAL values, areas among them, made one behind the other in the
--- newest block.
+-- Several variables of constant size, with INITIAL values and without, areas among them, made one behind the other in
+-- the newest block.
 use Rattle.std.specs.Prelude.{ℕ, ◌+◌, ◌^◌, ◌<◌, ◌≤◌, ◌≡◌, ◌⊎◌, ◌++◌, List, [], ◌∷◌, length, Option, None, Some, is_some}
-use Rattle.std.specs.Prelude.{false, true, ⊤}
+use Rattle.std.specs.Prelude.{Bool, false, nat_lt, true, ⊤}
 use Rattle.rv_meaning.specs.declared.instr.Instr.{Instr}
 use Rattle.pli_typing.specs.TypedTree as Y
 use Rattle.pli_meaning.specs.DeclaredShapes.{shape_of, variables_of_block}
@@ -15,6 +15,7 @@ use Rattle.activation_relation.specs.Layers.{Layer, Point}
 use Rattle.activation_relation.specs.Points.{Surroundings}
 use Rattle.activation_relation.specs.Variables.{Made, grown, with_made}
 use Rattle.program_runs.specs.Calls.{AreMade, Callee, begun_at}
+use Rattle.program_runs.specs.Initial.{MayBeMade}
 use Rattle.program_runs.specs.Names.{name_told}
 use Rattle.program_runs.specs.Procedures.{layer_for}
 use Rattle.program_runs.specs.Statements.{Block, IsAmong, IsBegun}
@@ -23,14 +24,14 @@ use Rattle.variable_runs.specs.Areas.{IsArea}
 
 -- ---- where they are made
 
--- what is told of the words of an area's name from then on, which services read
-abbrev pub told_by : Option ℕ → (place serial : ℕ) → (ℕ → Option ℕ) → ℕ → Option ℕ
-told_by (Some capacity) place serial told = name_told place serial told
-told_by None place serial told = told
+-- what is told of the words of its name from then on, which services read, if its serial number has two words
+abbrev pub told_if : Bool → (place serial : ℕ) → (ℕ → Option ℕ) → ℕ → Option ℕ
+told_if true place serial told = name_told place serial told
+told_if false place serial told = told
 
 abbrev pub made_now : MemoryParts → (serial : ℕ) → Layer → Declared → Made
 made_now parts serial φ x =
-    record (made_of parts φ x) { told = told_by (capacity_of (shape_of [] x.declared)) x.place serial φ.told }
+    record (made_of parts φ x) { told = told_if (nat_lt serial (2 ^ 64)) x.place serial φ.told }
 
 -- the newest block's layer behind one, and behind them all
 abbrev pub layer_behind : MemoryParts → (serial : ℕ) → Layer → Declared → Layer
@@ -56,16 +57,27 @@ first_all parts xs (φ ∷ φs) p = all_made parts φ xs p
 abbrev pub newest_all : MemoryParts → List Declared → Point → Point
 newest_all parts xs p = first_all parts xs p.control.layers p
 
--- a variable of values, or an area
+-- a variable of values to which nothing is given, or an area
 abbrev pub Declares : Surroundings → Point → Declared → Layer → List Layer → Type 0
 Declares w p x φ φs = IsDeclared w p x φ φs ⊎ IsArea w p x φ φs
 
+-- one that begins with what is told of static data, or an area
+abbrev pub MayBegin : Surroundings → List Instr → Point → Declared → Layer → List Layer → Type 0
+MayBegin w code p x φ φs = MayBeMade w code p x φ φs ⊎ IsArea w p x φ φs
+
 -- each can be made where those before it have been
+abbrev pub AreEach :
+    (Point → Declared → Layer → List Layer → Type 0) → MemoryParts → Point → Layer → List Layer → List Declared → Type 0
+AreEach P parts p φ φs [] = ⊤
+AreEach P parts p φ φs (x ∷ xs) =
+    P p x φ φs
+    × AreEach P parts (behind_made parts φ x p) (layer_behind parts (p.state.serials + 1) φ x) φs xs
+
 abbrev pub AreDeclared : Surroundings → Point → Layer → List Layer → List Declared → Type 0
-AreDeclared w p φ φs [] = ⊤
-AreDeclared w p φ φs (x ∷ xs) =
-    Declares w p x φ φs
-    × AreDeclared w (behind_made w.parts φ x p) (layer_behind w.parts (p.state.serials + 1) φ x) φs xs
+AreDeclared w p φ φs xs = AreEach (Declares w) w.parts p φ φs xs
+
+abbrev pub AllMayBegin : Surroundings → List Instr → Point → Layer → List Layer → List Declared → Type 0
+AllMayBegin w code p φ φs xs = AreEach (MayBegin w code) w.parts p φ φs xs
 
 -- ---- their code
 
@@ -96,17 +108,27 @@ AreThose n (x ∷ xs) (d ∷ ds) =
 
 -- ---- the variables of a procedure
 
--- the program declares them so, its code is that, and as many serials come with an act
-pub record AreAll (w : Surroundings) (c : Callee) (p : Point) (numbers : ℕ → ℕ) (xs : List Declared) : Type 0 where
-  pub kind : c.procedure.head.kind ≡ Y.ProcedureBlock
-  pub those : AreThose 0 xs (variables_of_block c.around.program c.procedure.head.number)
-  pub listed : AreListed c.environment 0 xs
-  pub code : c.procedure.variables ≡ made_code c.environment xs
-  pub made : c.made ≡ newest_all w.parts xs
-  pub parts : c.environment.parts ≡ w.parts
-  pub few : length xs ≤ w.serials
-  pub declared :
-      AreDeclared w (begun_at w c p numbers) (layer_for w p numbers c.procedure c.calling) p.control.layers xs
+-- the program declares them so, its code is that, and no more serials come between two acts than there are of them
+pub record AreAllOf (P : Point → Declared → Layer → List Layer → Type 0) (w : Surroundings) (c : Callee) (p : Point)
+    (numbers : ℕ → ℕ) (xs : List Declared) : Type 0
+  where
+    pub kind : c.procedure.head.kind ≡ Y.ProcedureBlock
+    pub those : AreThose 0 xs (variables_of_block c.around.program c.procedure.head.number)
+    pub listed : AreListed c.environment 0 xs
+    pub code : c.procedure.variables ≡ made_code c.environment xs
+    pub made : c.made ≡ newest_all w.parts xs
+    pub parts : c.environment.parts ≡ w.parts
+    pub few : length xs ≤ w.serials
+    pub declared :
+        AreEach P w.parts (begun_at w c p numbers) (layer_for w p numbers c.procedure c.calling) p.control.layers xs
+
+-- nothing is given to them
+abbrev pub AreAll : Surroundings → Callee → Point → (numbers : ℕ → ℕ) → List Declared → Type 0
+AreAll w c p numbers xs = AreAllOf (Declares w) w c p numbers xs
+
+-- INITIAL values are, or nothing
+abbrev pub AreAllBegun : Surroundings → List Instr → Callee → Point → (numbers : ℕ → ℕ) → List Declared → Type 0
+AreAllBegun w code c p numbers xs = AreAllOf (MayBegin w code) w c p numbers xs
 
 abbrev pub AllMade : Type 0
 AllMade =
@@ -125,6 +147,24 @@ AllAmong =
     (k : Block) (c : Callee) (xs : List Declared) (p : Point) (numbers held : ℕ → ℕ) → IsBegun k →
     IsAmong k numbers p → HaveWords p.state.serials xs → AreAll k.call.surroundings c k.first held xs →
     AreAll k.call.surroundings c p held xs
+
+-- ---- with INITIAL values
+
+pub record AllBegin : Type 0 where
+  -- a procedure makes them where its block begins
+  pub made :
+      (w : Surroundings) (code : List Instr) (c : Callee) (p : Point) (numbers : ℕ → ℕ) (xs : List Declared) →
+      AreAllBegun w code c p numbers xs → AreMade w code c p numbers
+  -- those to which nothing is given are some of these
+  pub without :
+      (w : Surroundings) (code : List Instr) (c : Callee) (p : Point) (numbers : ℕ → ℕ) (xs : List Declared) →
+      AreAll w c p numbers xs → AreAllBegun w code c p numbers xs
+  -- what holds of them at a block's first statement holds at each of the block's points
+  pub among :
+      (k : Block) (c : Callee) (xs : List Declared) (p : Point) (numbers held : ℕ → ℕ) → IsBegun k →
+      IsAmong k numbers p → HaveWords p.state.serials xs →
+      AreAllBegun k.call.surroundings k.call.code c k.first held xs →
+      AreAllBegun k.call.surroundings k.call.code c p held xs
 
 -- one of them
 abbrev pub Among : Declared → List Declared → Type 0

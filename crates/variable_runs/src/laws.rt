@@ -1,7 +1,7 @@
 // Laws of the definitions: each function's contract is one law, and calling it does nothing.
 
 ghost use Rattle.variable_runs.specs.Known.{VariablesKnown};
-ghost use Rattle.variable_runs.specs.Lists.{AllAmong, AllMade};
+ghost use Rattle.variable_runs.specs.Lists.{AllAmong, AllBegin, AllMade};
 ghost use Rattle.variable_runs.specs.Rows.{PairRan};
 
 use run_keeper::laws::run_keeper_keeps;
@@ -14,6 +14,11 @@ pub fn all_made()
 /// If it can make them where the first statement of the block that calls it begins, it can wherever that calls it.
 pub fn all_among()
     ensures { AllAmong }
+{}
+
+/// So it is of those with INITIAL values, too.
+pub fn all_begin()
+    ensures { AllBegin }
 {}
 
 /// Each of them is a variable of its block, wherever that is called, and a number if it is FIXED BINARY(31).

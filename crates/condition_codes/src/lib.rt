@@ -1,0 +1,4 @@
+// ONCODE in expressions at the points of a block.
+#![tactic(auto)]
+
+pub mod laws;
