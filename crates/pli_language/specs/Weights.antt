@@ -1,5 +1,5 @@
--- How much a tree holds, by which dropping it in loops ends: operands, references, statements and items at all levels. What is
--- turned, the left operand of an operator and the unit before ELSE, counts twice.
+-- How much a tree holds, by which dropping it in loops ends: operands, references, statements and items at all
+-- levels. What is turned, the left operand of an operator and the unit before ELSE, counts twice.
 use Rattle.std.specs.Prelude.{ℕ, suc, ◌+◌, ◌*◌}
 use Rattle.pli_language.specs.declared.expr.Expr.{Expr as ExprHeld}
 use Rattle.pli_language.specs.declared.expr.Expr as E

@@ -257,7 +257,7 @@ impl Items {
 
 impl Item {
     /// What stands in the item; the rest of it is dropped.
-    #[tactic(auto, unfolding(crate::specs::Weights::weight_of_items, crate::specs::Weights::weight_of_item, crate::specs::Weights::weight_of_stmt))]
+    #[tactic(auto, unfolding(crate::specs::Weights::weight_of_items, crate::specs::Weights::weight_of_item))]
     #[cycle(dropping)]
     fn into_bodies(self) -> Items
         ensures { weight_of_items result ≤ weight_of_item self }
@@ -282,7 +282,7 @@ impl Item {
 
 impl Stmt {
     /// A unit before ELSE: what stands in it, and the statement that is left, with the unit's own units before ELSE.
-    #[tactic(auto, unfolding(crate::specs::Weights::weight_of_items, crate::specs::Weights::weight_of_item, crate::specs::Weights::weight_of_stmt))]
+    #[tactic(auto, unfolding(crate::specs::Weights::weight_of_items, crate::specs::Weights::weight_of_stmt))]
     #[cycle(dropping)]
     fn before(self, mut cell: Box<Stmt>, condition: Expr, otherwise: Box<Stmt>) -> (Items, Stmt)
         requires { weight_of_stmt cell.value ≡ 1 }
@@ -358,7 +358,7 @@ impl Stmt {
     }
 
     /// What stands in the statement's groups and blocks; the rest of it is dropped.
-    #[tactic(auto, unfolding(crate::specs::Weights::weight_of_items, crate::specs::Weights::weight_of_item, crate::specs::Weights::weight_of_stmt))]
+    #[tactic(auto, unfolding(crate::specs::Weights::weight_of_items, crate::specs::Weights::weight_of_stmt))]
     #[cycle(dropping)]
     fn into_bodies(mut self) -> Items
         ensures { weight_of_items result ≤ weight_of_stmt self }
@@ -456,7 +456,7 @@ impl Stmt {
 
 impl Drop for Items {
     /// Drops the list from its front; what stands in its first item goes before the rest.
-    #[tactic(auto, unfolding(crate::specs::Weights::weight_of_items, crate::specs::Weights::weight_of_item, crate::specs::Weights::weight_of_stmt))]
+    #[tactic(auto, unfolding(crate::specs::Weights::weight_of_items, crate::specs::Weights::weight_of_item))]
     #[cycle(dropping)]
     fn drop(mut self) {
         loop {
@@ -472,7 +472,7 @@ impl Drop for Items {
 }
 
 impl Drop for Stmt {
-    #[tactic(auto, unfolding(crate::specs::Weights::weight_of_items, crate::specs::Weights::weight_of_item, crate::specs::Weights::weight_of_stmt))]
+    #[tactic(auto, unfolding(crate::specs::Weights::weight_of_items, crate::specs::Weights::weight_of_stmt))]
     #[cycle(dropping)]
     fn drop(self) {
         let _bodies = self.into_bodies();

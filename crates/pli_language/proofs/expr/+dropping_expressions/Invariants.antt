@@ -21,7 +21,8 @@ abbrev pub decreases-Exprs::drop-loop-self : goal.decreases-Exprs::drop-loop-sel
 decreases-Exprs::drop-loop-self l = weight_of_exprs l.self
 
 abbrev pub invariant-Expr::into_arguments-loop-self : goal.invariant-Expr::into_arguments-loop-self
-invariant-Expr::into_arguments-loop-self l = weight_of_exprs l.taken + weight_of_expr l.self ≤ weight_of_expr l.fn.self + 1
+invariant-Expr::into_arguments-loop-self l =
+    weight_of_exprs l.taken + weight_of_expr l.self ≤ weight_of_expr l.fn.self + 1
 
 abbrev pub decreases-Expr::into_arguments-loop-self : goal.decreases-Expr::into_arguments-loop-self
 decreases-Expr::into_arguments-loop-self l = weight_of_expr l.self
