@@ -52,7 +52,8 @@ use Rattle.number_runs.proofs.BlocksTaken.{registers_held}
 use Rattle.number_runs.proofs.Unraised.{around_texts_end}
 use Rattle.number_headlines.specs.Programs.{scope_of}
 use Rattle.number_headlines.proofs.Deciding.{by_decision, entry_low}
-use Rattle.number_headlines.proofs.Entered.{are_made, callee_in, entered, entered_at, inner_set, site_in}
+use Rattle.number_headlines.proofs.Entered.{entered}
+use Rattle.number_headlines.proofs.CalledBlocks.{are_made, callee_in, entered_at, inner_set, site_in}
 use Rattle.number_headlines.proofs.Entered.{unraised_there}
 use Rattle.number_headlines.proofs.Full.{are_full}
 use Rattle.number_headlines.proofs.ListBodies.{knows_given}

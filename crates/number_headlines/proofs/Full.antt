@@ -21,7 +21,7 @@ use Rattle.program_runs.specs.Starts.{image_parts}
 use Rattle.nested_calls.specs.FullVariables.{AreFull}
 use Rattle.number_runs.specs.Variables.{bytes_of}
 use Rattle.number_runs.proofs.Words.{places_are, words_code}
-use Rattle.number_headlines.proofs.Entered.{Moment, callee_in, inner_set}
+use Rattle.number_headlines.proofs.CalledBlocks.{Moment, callee_in, inner_set}
 use Rattle.number_headlines.proofs.Begins.{begins_at, block_begins}
 use Rattle.number_headlines.proofs.FullWords.{words_over}
 use Rattle.number_headlines.proofs.Inner.{Inner}

@@ -53,7 +53,8 @@ use Rattle.number_runs.proofs.AreaWords.{held_behind, held_few}
 use Rattle.number_headlines.specs.Headlines.{IsNumberProgram}
 use Rattle.number_headlines.specs.Programs.{are_all_known, has_main, most_words, places_to, pointers_of, scope_of}
 use Rattle.number_headlines.proofs.Bodies.{each_body}
-use Rattle.number_headlines.proofs.Entered.{made_idle, none_received}
+use Rattle.number_headlines.proofs.Entered.{none_received}
+use Rattle.number_headlines.proofs.CalledBlocks.{made_idle}
 use Rattle.number_headlines.proofs.FullWords.{words_at, words_lower}
 use Rattle.number_headlines.proofs.Mains.{Main, block_for, level_of, made_system, main_all, main_begun, main_area}
 use Rattle.number_headlines.proofs.Mains.{main_array, main_for, main_narrow, held_for, main_is, main_pointer}

@@ -10,6 +10,7 @@ pub mod Pointers
 pub mod Based
 pub mod Inner
 pub mod FullWords
+pub mod CalledBlocks
 pub mod Entered
 pub mod Full
 pub mod Deciding

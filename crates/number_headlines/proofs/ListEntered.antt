@@ -46,7 +46,8 @@ use Rattle.number_runs.specs.Numbers.{is_plain_if, is_received, is_plain}
 use Rattle.number_runs.specs.Variables.{is_declared}
 use Rattle.number_runs.proofs.Narrow.{outer_narrow}
 use Rattle.number_headlines.specs.Programs.{places_to, receivers_of, scope_of, beside_received, received_in}
-use Rattle.number_headlines.proofs.Entered.{inner_set, stands_at}
+use Rattle.number_headlines.proofs.Entered.{stands_at}
+use Rattle.number_headlines.proofs.CalledBlocks.{inner_set}
 use Rattle.number_headlines.proofs.Inner.{Inner}
 use Rattle.number_headlines.proofs.ListPlaces.{has_parameters, parameter_found, parameters_at, taking_body_placed}
 use Rattle.number_headlines.proofs.ListPlaces.{taking_ends}

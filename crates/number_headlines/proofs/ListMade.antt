@@ -29,7 +29,7 @@ use Rattle.list_calls.proofs.ListCalls.{come_copies}
 use Rattle.list_calls.proofs.ListGiving.{come_many}
 use Rattle.number_runs.specs.Variables.{AreTabled, EachBegins, bytes_of, HaveRoom}
 use Rattle.number_headlines.specs.Programs.{beside_received, most_bytes, received_in}
-use Rattle.number_headlines.proofs.Entered.{inner_set}
+use Rattle.number_headlines.proofs.CalledBlocks.{inner_set}
 use Rattle.number_headlines.proofs.Inner.{Inner}
 use Rattle.number_headlines.proofs.Mains.{Main, result_of, surroundings_for}
 use Rattle.number_headlines.proofs.Running.{IsRunning, Running, around_for, block_of_run, free_among, function_by}

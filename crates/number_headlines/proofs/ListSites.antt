@@ -34,7 +34,7 @@ use Rattle.number_runs.specs.Numbers.{is_parameter_if}
 use Rattle.number_runs.specs.Variables.{AreTabled, IsTabled, words_from}
 use Rattle.number_headlines.specs.Programs.{are_parameters, scope_of, most_words, beside_received, received_in}
 use Rattle.number_headlines.proofs.Deciding.{by_decision}
-use Rattle.number_headlines.proofs.Entered.{inner_set}
+use Rattle.number_headlines.proofs.CalledBlocks.{inner_set}
 use Rattle.number_headlines.proofs.Inner.{Inner}
 use Rattle.number_headlines.proofs.ListPlaces.{IsOwnList, indices_are, own_list, parameter_found, parameters_at}
 use Rattle.number_headlines.proofs.ListPlaces.{parameters_many, taking_at, taking_end, taking_index}

@@ -10,7 +10,7 @@ use Rattle.program_places.specs.Programs.{Site, callee_at}
 use Rattle.program_runs.specs.Calls.{Callee, begun_at}
 use Rattle.program_runs.specs.Procedures.{layer_for}
 use Rattle.program_runs.specs.Statements.{Block}
-use Rattle.number_headlines.proofs.Entered.{end_by}
+use Rattle.number_headlines.proofs.CalledBlocks.{end_by}
 use Rattle.number_headlines.proofs.Mains.{made_for}
 use Rattle.number_headlines.proofs.Running.{around_for, entry_by, function_by}
 
