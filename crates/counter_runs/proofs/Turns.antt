@@ -487,4 +487,3 @@ stepped_does x ls {aims} closed acts c {numbers} {p} f since jumps paid o there 
     (λ c' f' v' r s q. absurd q)
     (x.counter.read p1 numbers 0 c1 (again_index x) g (lined_among line o) refl
     (omega (arith, need), x.is.held) ls.again (omega (arith, paid)) at)))
-

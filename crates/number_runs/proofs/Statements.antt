@@ -143,7 +143,7 @@ started_linked h x condition index at =
     let one = act_code x.line in
     let put = assignment_code h.block.environment (set_aside h.words) x.variable x.start in
     let rest = once_code h.block.environment (set_aside h.words) condition x.line
-        (stmts_code h.block.environment (set_aside h.words) x.body) in
+    (stmts_code h.block.environment (set_aside h.words) x.body) in
     front_of (one ++ put) rest
     (subst (λ xs. Linked h.block.call.surroundings.links h.block.call.code index xs)
     (sym (append_assoc one put rest)) at.linked)

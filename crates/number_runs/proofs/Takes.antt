@@ -380,7 +380,7 @@ counting_taken words s spot precision first last n w body line x y z c2 tested i
     let e1 = tested.words in
     let turn = max (condition_sets w) (statements_set body) in
     let turned : max (bit_if_takes (set_aside (words + 2)) w).words (stmts_take (set_aside (words + 2)) body).words
-        ≡ words + 2 + turn = omega (arith, d1, e1) in
+    ≡ words + 2 + turn = omega (arith, d1, e1) in
     record { registers = omega (arith, a0, b0, d0, e0); words = omega (arith, a1, b1, c1, turned, c2) }
 
 count_taken :
