@@ -397,6 +397,7 @@ count_each input acts few b =
             (number_told k φ [] waits refl counter_spot (counter_number input acts b)))
             (λ y wide. let waits = with_word 0 (word y) φ.waits in
             overflow_ends (setting_with (told waits input acts) [] 4 100 2) (unraised waits input acts 4 2 few))
+            (λ y wide. tt)
             (λ y wide. turn_each (with_word 0 (word y) φ.waits) input acts few b),
         tt,
       ),

@@ -47,12 +47,13 @@ use Rattle.expression_runs.proofs.Assignments.{fit_is}
 use Rattle.argument_runs.specs.Lists.{layered, with_list}
 use Rattle.argument_runs.proofs.GivenLists.{with_list_stands}
 use Rattle.counter_runs.specs.Counters.{IsCounter}
-use Rattle.counter_runs.specs.Counts.{Counting, IsCount, TurnDoes, body_index, count_of, counter_of}
+use Rattle.counter_runs.specs.Counts.{Counting, IsCount, IsTested, TurnDoes, body_index, count_of, counter_of}
 use Rattle.counter_runs.specs.Counts.{setting_with, value_of_start, starting, turn_in, turning, turns_index}
 use Rattle.counter_runs.specs.Words.{telling, with_word}
 use Rattle.counter_runs.proofs.Limits.{limit_stores, start_loads, start_stores, word_at}
 use Rattle.counter_runs.proofs.Turns.{AreLinked, Loop, coded, fewer_in, goal_of, linked_in, starts_code, turn_size}
-use Rattle.counter_runs.proofs.Turns.{around_of, turns_do, turns_of, within}
+use Rattle.counter_runs.proofs.Turns.{around_of, turns_of, within}
+use Rattle.counter_runs.proofs.Turning.{turns_do}
 use Rattle.counter_runs.proofs.Words.{Fewer, WordAt, in_fewer, jumps_back, told_among, word_back, word_kept}
 
 -- ---- a word that is told from then on
@@ -204,6 +205,10 @@ pub record Parts : Type 0 where
   pub over :
       (y : ℤ) → IsWide y →
       OverflowComes (setting_with (turning words layer others block y) labels count.line most (words + 2))
+  pub tested :
+      (y : ℤ) → IsWide y →
+      IsTested (setting_with (turning words layer others block y) labels count.line most (words + 2)) need
+      count.condition
   pub turn :
       (y : ℤ) → IsWide y →
       TurnDoes words (turning words layer others block y) labels count.body (body_index words block count index) left'
@@ -226,6 +231,7 @@ loop_in x y wide =
       wide = wide;
       counter = x.counter y wide;
       over = x.over y wide;
+      tested = x.tested y wide;
       turn = x.turn y wide;
     }
 
@@ -250,7 +256,7 @@ limit_next x z most =
     (M.counter_started (line_of x) (counter_of x.count) (V.ComputationalNumber x.count.precision z))
     >>= (λ first.
     (M.assigned (line_of x) x.count.counter first)
-    >> (repeated_while x.block.around.turns (M.turn_due (line_of x) (counter_of x.count) most by None)
+    >> (repeated_while x.block.around.turns (M.turn_due (line_of x) (counter_of x.count) most by x.count.condition)
     ((M.list x.block.around x.count.body) >> (M.stepped (line_of x) (counter_of x.count) by)))))
 
 limited_does :
@@ -290,7 +296,7 @@ limited_does x acts wanted debt c i {numbers} {p} f z y wz wy since some paid ow
     (M.counter_started (line_of x) (counter_of x.count) (V.ComputationalNumber x.count.precision z))
     >>= (λ first.
     (M.assigned (line_of x) x.count.counter first)
-    >> (repeated_while x.block.around.turns (M.turn_due (line_of x) (counter_of x.count) (Some y) by None)
+    >> (repeated_while x.block.around.turns (M.turn_due (line_of x) (counter_of x.count) (Some y) by x.count.condition)
     ((M.list x.block.around x.count.body) >> (M.stepped (line_of x) (counter_of x.count) by)))) in
     let q = with_list (both_waits x.words φ z y) φ φs p in
     let q2 = with_list less φ φs p in
@@ -329,7 +335,7 @@ start_next x v =
     (M.counter_started (line_of x) (counter_of x.count) v)
     >>= (λ first.
     (M.assigned (line_of x) x.count.counter first)
-    >> (repeated_while x.block.around.turns (M.turn_due (line_of x) (counter_of x.count) most by None)
+    >> (repeated_while x.block.around.turns (M.turn_due (line_of x) (counter_of x.count) most by x.count.condition)
     ((M.list x.block.around x.count.body) >> (M.stepped (line_of x) (counter_of x.count) by))))))
 
 abbrev limit_part : Parts → Code
@@ -495,9 +501,11 @@ pub count_does :
     ((y : ℤ) → IsWide y → IsCounter (setting_with (turning words φ φs k y) labels c.line most (words + 2)) need
     c.counter) →
     ((y : ℤ) → IsWide y → OverflowComes (setting_with (turning words φ φs k y) labels c.line most (words + 2))) →
+    ((y : ℤ) → IsWide y → IsTested (setting_with (turning words φ φs k y) labels c.line most (words + 2)) need
+    c.condition) →
     ((y : ℤ) → IsWide y → TurnDoes words (turning words φ φs k y) labels c.body (body_index words k c index) left') →
     DoesWith words k labels (count_of c) index left'
-count_does words k c φ φs labels index left' need most is start limit counter over turn =
+count_does words k c φ φs labels index left' need most is start limit counter over tested turn =
     statement_does
     (record {
       words = words;
@@ -515,5 +523,6 @@ count_does words k c φ φs labels index left' need most is start limit counter 
       limit = limit;
       counter = counter;
       over = over;
+      tested = tested;
       turn = turn;
     })

@@ -2,6 +2,7 @@ pub mod Words
 pub mod Steps
 pub mod Limits
 pub mod Turns
+pub mod Turning
 pub mod Counts
 pub mod Bodies
 pub mod Needs

@@ -116,8 +116,8 @@ beside limit z b = (6, word limit) ∷ (10, word z) ∷ []
 
 -- past so many words unless one register is at least another
 by_order :
-    {links : Links} {code : List Instr} {i : ℕ} {g : Ground} {v : Services} {h t : ℕ → ℕ} {rs : Base → List (ℕ × ℕ)}
-    {aims : Aims (Unit {0})} (s : State) (k : ℕ) (one other : Meaning (Unit {0})) (p : Bool)
+    {R : Type 0} {links : Links} {code : List Instr} {i : ℕ} {g : Ground} {v : Services} {h t : ℕ → ℕ} {rs : Base → List (ℕ × ℕ)}
+    {aims : Aims R} (s : State) (k : ℕ) (one other : Meaning R) (p : Bool)
     (closed : Closed code aims) (c : ℕ) (f : Family) (r q : Register) (behind : ℕ) → i + 3 + behind ≤ length code →
     Linked links code i (skip_where Test.GreaterOrEqual r q (JumpAhead behind ∷ [])) →
     ((b : Base) → At b i (Known g v h t rs b) (f b)) →
@@ -146,8 +146,8 @@ by_order {code = code} {i = i} {v = v} {aims = aims} s k one other true closed c
     (past' f2 (λ b. record { pc = (at2 b).pc ∙ ap (address b) there; holds = (at2 b).holds }))))
 
 by_direction :
-    {links : Links} {code : List Instr} {i : ℕ} {g : Ground} {v : Services} {h t : ℕ → ℕ} {aims : Aims (Unit {0})}
-    (s : State) (k : ℕ) (one other : Meaning (Unit {0})) (falls : Bool) (closed : Closed code aims) (c : ℕ)
+    {R : Type 0} {links : Links} {code : List Instr} {i : ℕ} {g : Ground} {v : Services} {h t : ℕ → ℕ}
+    {aims : Aims R} (s : State) (k : ℕ) (one other : Meaning R) (falls : Bool) (closed : Closed code aims) (c : ℕ)
     (f : Family) (limit z : ℤ) (behind : ℕ) → IsWide limit → IsWide z → i + 3 + behind ≤ length code →
     Linked links code i (passed falls behind) → ((b : Base) → At b i (Known g v h t (beside limit z) b) (f b)) →
     ((f' : Family) → ((b : Base) → At b (i + 3) (Known g v h t nothing b) (f' b)) →
@@ -177,10 +177,10 @@ limit_size words by behind =
     ∙ ap (λ n. size_of a + n) (passed_size (int_lt by (pos 0)) behind)
 
 pub limit_does :
-    (words : ℕ) → words < 2 ^ 16 → (w : Surroundings) (code : List Instr) (p : Point) (φ : Layer)
+    {R : Type 0} (words : ℕ) → words < 2 ^ 16 → (w : Surroundings) (code : List Instr) (p : Point) (φ : Layer)
     (φs : List Layer) {numbers : ℕ → ℕ} {index : ℕ}
-    {aims : Aims (Unit {0})} (closed : Closed code aims) (c : ℕ) (f : Family) (h : IsFrame φ.at)
-    (limit by z : ℤ) (behind : ℕ) (s : State) (k : ℕ) (one other : Meaning (Unit {0})) →
+    {aims : Aims R} (closed : Closed code aims) (c : ℕ) (f : Family) (h : IsFrame φ.at)
+    (limit by z : ℤ) (behind : ℕ) (s : State) (k : ℕ) (one other : Meaning R) →
     IsWide limit × IsWide z → (words < φ.words) × (φ.waits words ≡ Some (word limit)) →
     Linked w.links code index (limit_tested (set_aside words) (Some by) behind) → index + test_length words + behind
     ≤ length code →

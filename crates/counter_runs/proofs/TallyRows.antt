@@ -205,7 +205,7 @@ loop_does input (suc more) few b =
     (λ z wide. does_more (setting_with (starting 0 φ [] k z) [] 7 400 3) 0 2 (Y.NumberConstant 3) (omega arith)
     (constant_does (setting_with (starting 0 φ [] k z) [] 7 400 3) 3 (omega arith)))
     (λ y wide. counter_is (with_word 0 (word y) φ.waits) input more few b)
-    (λ y wide. main_over (with_word 0 (word y) φ.waits) input more 7 2 few b)
+    (λ y wide. main_over (with_word 0 (word y) φ.waits) input more 7 2 few b) (λ y wide. tt)
     (λ y wide. turn_each (with_word 0 (word y) φ.waits) input more few b)
 
 pub tally_does :

@@ -1,4 +1,4 @@
--- The turns of a DO that counts: each makes an act, so the turns that the meaning allows are enough.
+-- The parts of a turn of a DO that counts, where they stand, and its step.
 use Rattle.std.proofs.Common.{◌≡◌, ℕ, zero, suc, ◌+◌, ◌<◌, ◌≤◌, List, [], ◌∷◌, ◌++◌, None, Option, Some, Bool, true}
 use Rattle.std.proofs.Common.{false, refl, sym, ap, ◌∙◌, subst, arith}
 use Rattle.std.proofs.lemmas.Bool.{eq-eqb}
@@ -20,12 +20,13 @@ use Rattle.pli_meaning.specs.World.{counted}
 use Rattle.pli_serving.specs.ServiceState.{Services}
 use Rattle.pli_coding.specs.Allocating.{act_code}
 use Rattle.pli_coding.specs.Arithmetic.{constant_added}
-use Rattle.pli_coding.specs.Assembly.{Code, JumpBack, size_of}
-use Rattle.pli_coding.specs.Expressions.{number_code}
-use Rattle.pli_coding.specs.Instructions.{number, service, small}
-use Rattle.pli_coding.specs.Registers.{a0, a1}
-use Rattle.pli_coding.specs.Statements.{in_turns, limit_code, limit_tested, start_code, started_code, step_kept}
-use Rattle.pli_coding.specs.Statements.{stmt_code, stmts_code, turn_of, turns_code, words_back, words_behind_limit}
+use Rattle.pli_coding.specs.Assembly.{Code, JumpAhead, JumpBack, size_of}
+use Rattle.pli_coding.specs.Expressions.{bit_code, number_code}
+use Rattle.pli_coding.specs.Instructions.{number, service, skip_where, small}
+use Rattle.pli_coding.specs.Registers.{a0, a1, zero_register}
+use Rattle.rv_meaning.specs.declared.instr.BranchTest.TheVariants as Test
+use Rattle.pli_coding.specs.Statements.{in_turns, limit_code, limit_tested, start_code, started_code, step_kept, while_kept}
+use Rattle.pli_coding.specs.Statements.{stmt_code, stmts_code, turn_of, turns_code, words_back, words_behind_condition, words_behind_limit}
 use Rattle.pli_coding.specs.Storing.{word_stored}
 use Rattle.activation_relation.specs.Changes.{with_line}
 use Rattle.activation_relation.specs.FrameLaws.{with_waits}
@@ -55,7 +56,7 @@ use Rattle.argument_runs.specs.Lists.{layered, with_list}
 use Rattle.test_runs.proofs.Chosen.{none_owed}
 use Rattle.counter_runs.specs.Counters.{IsCounter, put_aims}
 use Rattle.counter_runs.specs.Counts.{Counting, IsCount, TurnDoes, body_index, count_of, counter_of, setting_with}
-use Rattle.counter_runs.specs.Counts.{IsStep, value_of_start}
+use Rattle.counter_runs.specs.Counts.{IsStep, IsTested, value_of_start}
 use Rattle.counter_runs.specs.Counts.{turn_in, turning, turns_index}
 use Rattle.counter_runs.specs.Words.{with_word}
 use Rattle.counter_runs.proofs.Limits.{limit_does, limit_size, test_length}
@@ -82,6 +83,9 @@ pub record Loop : Type 0 where
       IsCounter (setting_with (turning words layer others block limit) labels count.line most (words + 2)) need
       count.counter
   pub over : OverflowComes (setting_with (turning words layer others block limit) labels count.line most (words + 2))
+  pub tested :
+      IsTested (setting_with (turning words layer others block limit) labels count.line most (words + 2)) need
+      count.condition
   pub turn :
       TurnDoes words (turning words layer others block limit) labels count.body (body_index words block count index)
       left'
@@ -111,7 +115,7 @@ abbrev pub around_of : Loop → Around
 around_of x = at_line x.block.around x.count.line
 
 abbrev pub test_of : Loop → Meaning Bool
-test_of x = M.turn_due (around_of x) (counter_of x.count) (Some x.limit) x.count.by None
+test_of x = M.turn_due (around_of x) (counter_of x.count) (Some x.limit) x.count.by x.count.condition
 
 abbrev pub part_of : Loop → Meaning (Unit {0})
 part_of x = (M.list x.block.around x.count.body) >> (M.stepped (around_of x) (counter_of x.count) x.count.by)
@@ -136,12 +140,22 @@ body_code x = stmts_code x.block.environment (in_turns (set_aside x.words)) x.co
 abbrev pub added_code : Loop → Code
 added_code x = constant_added (in_registers (x.words + 2) 0) x.count.by
 
--- how much of it stands behind the test
+-- WHILE, past so many words where it isn't met
+abbrev pub while_code : Loop → (condition : Option Y.Bit) → (behind : ℕ) → Code
+while_code x condition behind = while_kept x.block.environment (set_aside x.words) condition behind
+
+abbrev pub while_size : Loop → ℕ
+while_size x = size_of (while_code x x.count.condition 0)
+
+-- how much of it stands behind the tests
 abbrev pub step_size : Loop → ℕ
 step_size x = line_size x.count.line + (size_of (read_code x) + size_of (added_code x))
 
+abbrev pub behind_while : Loop → ℕ
+behind_while x = size_of (body_code x) + (step_size x + 2)
+
 abbrev pub behind_test : Loop → ℕ
-behind_test x = size_of (body_code x) + (step_size x + 2)
+behind_test x = while_size x + behind_while x
 
 -- and of a turn
 abbrev pub turn_size : Loop → ℕ
@@ -163,7 +177,7 @@ coded_by words k c step =
     ++ ((start_code e (set_aside words) (value_of_start c)
     ++ (limit_code e (set_aside words) (Some c.limit)
     ++ (step_kept e (set_aside words) c.step step ++ started_code (set_aside words) (counter_of c) (value_of_start c))))
-    ++ turns_code (turn_of e (set_aside words) (counter_of c) (Some c.limit) step None c.line
+    ++ turns_code (turn_of e (set_aside words) (counter_of c) (Some c.limit) step c.condition c.line
     (stmts_code e (in_turns (set_aside words)) c.body)))
 
 pub coded :
@@ -183,8 +197,14 @@ read_index x = act_index x + size_of (act_code x.count.line)
 abbrev pub test_index : Loop → ℕ
 test_index x = read_index x + size_of (read_code x)
 
+abbrev pub while_index : Loop → ℕ
+while_index x = test_index x + test_length x.words
+
+abbrev pub statements_index : Loop → ℕ
+statements_index x = while_index x + while_size x
+
 abbrev pub line_index : Loop → ℕ
-line_index x = test_index x + test_length x.words + size_of (body_code x)
+line_index x = statements_index x + size_of (body_code x)
 
 abbrev pub again_index : Loop → ℕ
 again_index x = line_index x + line_size x.count.line
@@ -198,6 +218,12 @@ back_index x = added_index x + size_of (added_code x)
 abbrev pub IsLinked : Loop → (index : ℕ) → Code → Type 0
 IsLinked x index part = Linked x.block.call.surroundings.links x.block.call.code index part
 
+-- the statements of a turn, the step and the way back
+abbrev pub turn_rest : Loop → Code
+turn_rest x =
+    let u = turn_in x.words x.block x.count in
+    u.body ++ (u.stepped ++ JumpBack (words_back u) ∷ [])
+
 pub record AreLinked (x : Loop) : Type 0 where
   pub put : IsLinked x (turns_index x.words x.block x.count x.index) (put_code x)
   pub act : IsLinked x (act_index x) (act_code x.count.line)
@@ -205,6 +231,7 @@ pub record AreLinked (x : Loop) : Type 0 where
   pub test :
       IsLinked x (test_index x)
       (limit_tested (set_aside x.words) (Some x.count.by) (words_behind_limit (turn_in x.words x.block x.count)))
+  pub behind : IsLinked x (while_index x) (while_code x x.count.condition (size_of (turn_rest x)) ++ turn_rest x)
   pub body : IsLinked x (body_index x.words x.block x.count x.index) (body_code x)
   pub line : IsLinked x (line_index x) (number a0 x.count.line)
   pub service : IsLinked x (line_index x + size_of (number a0 x.count.line)) (small a1 1 ∷ service 1)
@@ -212,10 +239,22 @@ pub record AreLinked (x : Loop) : Type 0 where
   pub added : IsLinked x (added_index x) (added_code x)
   pub back : IsLinked x (back_index x) (JumpBack (words_back (turn_in x.words x.block x.count)) ∷ [])
   -- how far the jumps go, and where the statements of a turn begin
+  pub rest_size : size_of (turn_rest x) ≡ behind_while x
   pub far : words_behind_limit (turn_in x.words x.block x.count) ≡ behind_test x
   pub near : words_back (turn_in x.words x.block x.count) + 2 ≡ turn_size x
-  pub first : body_index x.words x.block x.count x.index ≡ test_index x + test_length x.words
+  pub first : body_index x.words x.block x.count x.index ≡ statements_index x
   pub size : size_of (turns_code (turn_in x.words x.block x.count)) ≡ turn_size x
+
+-- how far the jump goes changes nothing
+pub while_long :
+    (words : ℕ) (k : Block) (condition : Option Y.Bit) (behind : ℕ) →
+    size_of (while_kept k.environment (set_aside words) condition behind)
+    ≡ size_of (while_kept k.environment (set_aside words) condition 0)
+while_long words k None behind = refl
+while_long words k (Some b) behind =
+    let test = bit_code k.environment (in_turns (set_aside words)) b in
+    size_append test (skip_where Test.NotEqual a0 zero_register (JumpAhead behind ∷ []))
+    ∙ sym (size_append test (skip_where Test.NotEqual a0 zero_register (JumpAhead 0 ∷ [])))
 
 pub linked_in :
     (x : Loop) →
@@ -236,7 +275,9 @@ linked_in x l =
     let rest2 = read' ++ (added' ++ []) in
     let stepped' = line' ++ (three ++ rest2) in
     let last = stepped' ++ jump in
-    let after = body' ++ last in
+    let rest = body' ++ last in
+    let while' = while_code x x.count.condition (words_behind_condition u) in
+    let after = while' ++ rest in
     let limit' = read' ++ test' in
     let i0 = turns_index x.words x.block x.count x.index in
     let n0 = size_append (put' ++ one) (limit' ++ after) in
@@ -245,17 +286,21 @@ linked_in x l =
     let n3 = size_append read' test' in
     let n4 = limit_size x.words x.count.by far in
     let n5 = size_append body' last in
+    let n10 = size_append while' rest in
+    let n11 = while_long x.words x.block x.count.condition (words_behind_condition u) in
     let n6 = size_append stepped' jump in
     let n7 = size_append line' (three ++ rest2) in
     let n8 = size_append read' (added' ++ []) in
     let n9 = size_append added' [] in
     let m0 = size_append read' (limit_tested (set_aside x.words) (Some x.count.by) 0) in
     let m1 = limit_size x.words x.count.by 0 in
+    let far' : words_behind_condition u ≡ size_of rest = omega (arith, n5, n6) in
     let l0 = front_of (put' ++ one) (limit' ++ after) l in
     let l1 = back_of (put' ++ one) (limit' ++ after) l in
     let l2 = front_of limit' after l1 in
     let l3 = back_of limit' after l1 in
-    let l4 = back_of body' last l3 in
+    let l9 = back_of while' rest l3 in
+    let l4 = back_of body' last l9 in
     let l5 = front_of stepped' jump l4 in
     let l6 = back_of line' (three ++ rest2) l5 in
     let l7 = back_of three rest2 l6 in
@@ -265,17 +310,21 @@ linked_in x l =
       act = back_of put' one l0;
       read = linked_at (read_index x) read' (omega (arith, n1)) (front_of read' test' l2);
       test = linked_at (test_index x) test' (omega (arith, n1)) (back_of read' test' l2);
-      body = linked_at (body_index x.words x.block x.count x.index) body' (omega (arith, n1, n3, n4, m0, m1))
-          (front_of body' last l3);
-      line = linked_at (line_index x) line' (omega (arith, n1, n3, n4)) (front_of line' (three ++ rest2) l5);
-      service = linked_at (line_index x + size_of line') three (omega (arith, n1, n3, n4)) (front_of three rest2 l6);
-      again = linked_at (again_index x) read' (omega (arith, n1, n3, n4)) (front_of read' (added' ++ []) l7);
-      added = linked_at (added_index x) added' (omega (arith, n1, n3, n4)) (front_of added' [] l8);
-      back = linked_at (back_index x) jump (omega (arith, n1, n3, n4, n7, n8, n9)) (back_of stepped' jump l4);
+      behind = subst (λ n. IsLinked x (while_index x) (while_code x x.count.condition n ++ rest)) far'
+          (linked_at (while_index x) after (omega (arith, n1, n3, n4)) l3);
+      body = linked_at (body_index x.words x.block x.count x.index) body' (omega (arith, n1, n3, n4, n11, m0, m1))
+          (front_of body' last l9);
+      line = linked_at (line_index x) line' (omega (arith, n1, n3, n4, n11)) (front_of line' (three ++ rest2) l5);
+      service = linked_at (line_index x + size_of line') three (omega (arith, n1, n3, n4, n11))
+          (front_of three rest2 l6);
+      again = linked_at (again_index x) read' (omega (arith, n1, n3, n4, n11)) (front_of read' (added' ++ []) l7);
+      added = linked_at (added_index x) added' (omega (arith, n1, n3, n4, n11)) (front_of added' [] l8);
+      back = linked_at (back_index x) jump (omega (arith, n1, n3, n4, n7, n8, n9, n11)) (back_of stepped' jump l4);
+      rest_size = omega (arith, n5, n6, n7, n8, n9);
       far = omega (arith, n7, n8, n9);
       near = omega (arith, n1, n7, n8, n9, m0, m1);
       first = omega (arith, n1, m0, m1);
-      size = omega (arith, n0, n1, n2, n3, n4, n5, n6, n7, n8, n9);
+      size = omega (arith, n0, n1, n2, n3, n4, n5, n6, n7, n8, n9, n10, n11);
     }
 
 -- ---- behind the last turn
@@ -300,8 +349,9 @@ jumps_on x acts wanted debt more since c f v height label s q i0 f0 v0 from =
     (jumps_back x.block x.layer x.others (waits_in x) x.is.newest
     (fewer_in x.layer.waits x.words (word x.limit) x.is.free.0) q))
 
-end_is : (x : Loop) → AreLinked x → test_index x + test_length x.words + behind_test x ≡ x.index + size_with x.words
-    x.block (count_of x.count)
+pub end_is :
+    (x : Loop) → AreLinked x →
+    while_index x + behind_test x ≡ x.index + size_with x.words x.block (count_of x.count)
 end_is x ls =
     let one = act_code x.count.line in
     let turns = turns_code (turn_in x.words x.block x.count) in
@@ -313,7 +363,7 @@ end_is x ls =
     let n4 = ls.size in
     omega (arith, n0, n1, n2, n3, n4)
 
-past_does :
+pub past_does :
     (x : Loop) (acts wanted debt : ℕ) {numbers : ℕ → ℕ} {p : Point} (c i : ℕ) (f : Family) →
     acts ≤ p.state.world.acts → c ≤ wanted + debt → IsAmong (within x) numbers p →
     i ≡ x.index + size_with x.words x.block (count_of x.count) → AreIn x.block.call.surroundings p numbers i f →
@@ -343,7 +393,7 @@ abbrev added_next : Loop → ℤ → Meaning (Unit {0})
 added_next x z = (R.value_of (around_of x) (checked 31 (z +ℤ x.count.by))) >>= (λ n. stepped_next x n)
 
 -- where the next turn begins, with the number that is assigned in a0
-abbrev Again : Loop → Aims (Unit {0}) → (acts credits : ℕ) → Type 0
+abbrev pub Again : Loop → Aims (Unit {0}) → (acts credits : ℕ) → Type 0
 Again x aims acts credits =
     (q : Point) (after : ℕ → ℕ) (g : Family) (z : ℤ) → IsWide z → IsAmong (within x) after q →
     acts ≤ q.state.world.acts → q.control.line ≡ x.count.line →
@@ -387,7 +437,7 @@ summed_does x ls {aims} closed acts c c' f v z s y wide since line at paid q nex
     }))
 
 -- from the end of a turn's statements
-stepped_does :
+pub stepped_does :
     (x : Loop) → AreLinked x → {aims : Aims (Unit {0})} (closed : Closed x.block.call.code aims) (acts c : ℕ)
     {numbers : ℕ → ℕ} {p : Point} (f : Family) → acts ≤ p.state.world.acts →
     (aims.limits ≡ limits_of x.block.call.surroundings)
@@ -437,242 +487,3 @@ stepped_does x ls {aims} closed acts c {numbers} {p} f since jumps paid o there 
     (λ c' f' v' r s q. absurd q)
     (x.counter.read p1 numbers 0 c1 (again_index x) g (lined_among line o) refl
     (omega (arith, need), x.is.held) ls.again (omega (arith, paid)) at)))
-
--- ---- a turn
-
--- where the limit isn't passed
-abbrev turned : Loop → (turns : ℕ) → Meaning (Unit {0})
-turned x turns = (part_of x) >> (turns_of turns x)
-
-met_does :
-    (x : Loop) → AreLinked x → (turns acts wanted debt c : ℕ) {numbers : ℕ → ℕ} {p : Point} (f : Family) →
-    acts ≤ p.state.world.acts → 0 < p.state.world.acts → c + behind_test x + x.most ≤ cost x.block.call.code →
-    IsAmong (within x) numbers p → AreIn x.block.call.surroundings p numbers (test_index x + test_length x.words) f →
-    Again x
-    (before x.block.call.code (goal_of x acts wanted debt) x.block.call.surroundings.acts (λ u. turns_of turns x))
-    p.state.world.acts (c + behind_test x) →
-    Comes x.block.call.code c f (services_of p) (goal_of x acts wanted debt)
-    (turned x turns x.block.call.surroundings.acts p.state)
-unfolding ◌>>◌
-met_does x ls turns acts wanted debt c {numbers} {p} f since some paid o there next' =
-    let w = x.block.call.surroundings in
-    let code = x.block.call.code in
-    let k = within x in
-    let goal = goal_of x acts wanted debt in
-    let again : Unit {0} → Meaning (Unit {0}) = λ u. turns_of turns x in
-    let step : Unit {0} → Meaning (Unit {0}) = λ u. M.stepped (around_of x) (counter_of x.count) x.count.by in
-    let body' = body_code x in
-    let i = test_index x + test_length x.words in
-    let more = p.state.world.acts in
-    let closed = before_closed w.acts again (goal_closed x acts wanted debt) in
-    let first = ls.first in
-    comes_on w.acts (part_of x w.acts p.state) again
-    (comes_on w.acts (M.list x.block.around x.count.body w.acts p.state) step
-    (comes_map (statement_aims k x.labels more (i + size_of body') (c + size_of body') x.left')
-    (before code (before code goal w.acts again) w.acts step) refl (M.list x.block.around x.count.body w.acts p.state)
-    (λ c' f' v' r s q.
-    let later = q.since in
-    subst (λ u. Comes code c' f' v' (before code goal w.acts again) (step tt w.acts u)) (sym q.state)
-    (onward closed q.reach
-    (λ g at.
-    stepped_does x ls closed more (c + size_of body') g later
-    (refl, λ c3 f3 v3 height label s3 j. jumps_on x acts wanted debt more since c3 f3 v3 height label s3 j)
-    (omega (arith, paid)) q.among at
-    (subst (λ n. Again x (before code goal w.acts again) more n) (omega arith) next'))))
-    (λ c' f' v' height label s q. jumps_on x acts wanted debt more since c' f' v' height label s q)
-    (λ c' f' v' r s q. λ i0 f0 v0 from.
-    returns_repaid debt from (returns_back x.block x.layer x.others (waits_in x) q))
-    (subst (λ j. Comes code c f (services_of p) (statement_aims k x.labels more (j + size_of body') (c + size_of body')
-    x.left')
-    (M.list x.block.around x.count.body w.acts p.state)) first
-    (x.turn p numbers c (c + size_of body') f o ls.body (omega arith, omega (arith, paid))
-    (λ b. subst (λ j. IsIn w p numbers j b (f b)) (sym first) (there b))))))
-
--- ---- the test
-
-abbrev Limited : Loop → Aims (Unit {0}) → (numbers : ℕ → ℕ) → (c : ℕ) → Family → (z : ℤ) →
-    (one other : Meaning (Unit {0})) → Point → Type 0
-Limited x aims numbers c f z one other q =
-    IsAmong (within x) numbers q →
-    ((b : Base) → IsIn x.block.call.surroundings q numbers (test_index x) b (f b) × (value (f b).machine a0 ≡ word z)) →
-    ((g : Family) → AreIn x.block.call.surroundings q numbers (test_index x + test_length x.words) g →
-    Comes x.block.call.code (c + test_length x.words) g (services_of q) aims (one x.block.call.surroundings.acts
-    q.state)) →
-    ((g : Family) → AreIn x.block.call.surroundings q numbers (test_index x + test_length x.words + behind_test x) g →
-    Comes x.block.call.code (c + test_length x.words + behind_test x) g (services_of q) aims
-    (other x.block.call.surroundings.acts q.state)) →
-    Comes x.block.call.code c f (services_of q) aims
-    (choose (M.has_not_passed x.limit x.count.by z) one other x.block.call.surroundings.acts q.state)
-
-limited_does :
-    (x : Loop) → AreLinked x → {aims : Aims (Unit {0})} (closed : Closed x.block.call.code aims) (c : ℕ)
-    {numbers : ℕ → ℕ} {p : Point} (f : Family) (z : ℤ) (one other : Meaning (Unit {0})) → IsWide z →
-    IsAmong (within x) numbers p →
-    ((b : Base) → IsIn x.block.call.surroundings p numbers (test_index x) b (f b) × (value (f b).machine a0 ≡ word z)) →
-    ((g : Family) → AreIn x.block.call.surroundings p numbers (test_index x + test_length x.words) g →
-    Comes x.block.call.code (c + test_length x.words) g (services_of p) aims (one x.block.call.surroundings.acts
-    p.state)) →
-    ((g : Family) → AreIn x.block.call.surroundings p numbers (test_index x + test_length x.words + behind_test x) g →
-    Comes x.block.call.code (c + test_length x.words + behind_test x) g (services_of p) aims
-    (other x.block.call.surroundings.acts p.state)) →
-    Comes x.block.call.code c f (services_of p) aims
-    (choose (M.has_not_passed x.limit x.count.by z) one other x.block.call.surroundings.acts p.state)
-limited_does x ls {aims} closed c {numbers} {p} f z one other wide o there met past =
-    subst (Limited x aims numbers c f z one other) (sym (ap (λ φs. layered φs p) o.later.layers)) known o there met past
-  where
-    w : Surroundings
-    w = x.block.call.surroundings
-
-    code : List Instr
-    code = x.block.call.code
-
-    ψ : Layer
-    ψ = with_waits (waits_in x) x.layer
-
-    far : ℕ
-    far = behind_test x
-
-    known : Limited x aims numbers c f z one other (layered (ψ ∷ x.others) p)
-    known o' there' met' past' =
-        let h = point_frame o'.stands o'.image in
-        let inside = ls.back.inside in
-        let words = x.is.inside in
-        let low = x.is.low in
-        let here : x.words == x.words ≡ true = eq-eqb x.words x.words refl in
-        let same = ls.far in
-        limit_does x.words (omega (arith, words, low)) w code p ψ x.others closed c f h x.limit x.count.by z far p.state
-        w.acts one other (x.wide, wide)
-        (omega (arith, words), ap (λ q. cond q (Some (word x.limit)) (x.layer.waits x.words)) here)
-        (subst (λ n. IsLinked x (test_index x) (limit_tested (set_aside x.words) (Some x.count.by) n)) same ls.test)
-        (omega (arith, inside)) (λ b. known_word (within x) h (there' b))
-        (λ g at. met' g (λ b. in_known h o'.image.parts (at b)))
-        (λ g at. past' g (λ b. in_known h o'.image.parts (at b)))
-
--- ---- all of them
-
-met_is :
-    (around : Around) (q : Bool) (acts : ℕ) (s : State) →
-    choose q (M.condition_met around None) (give false) acts s ≡ Normal q s
-unfolding choose M.condition_met give
-met_is around true acts s = refl
-met_is around false acts s = refl
-
-abbrev chosen : Loop → (turns : ℕ) → Bool → Meaning (Unit {0})
-chosen x turns met = choose met (turned x turns) (give tt)
-
-abbrev met_next : Loop → Bool → Meaning Bool
-met_next x q = choose q (M.condition_met (around_of x) None) (give false)
-
--- behind the act of a test
-due_does :
-    (x : Loop) → AreLinked x → (turns acts wanted debt : ℕ) {numbers : ℕ → ℕ} {p : Point} (f : Family) →
-    acts ≤ p.state.world.acts → 0 < p.state.world.acts → turn_size x + x.most ≤ cost x.block.call.code →
-    turn_size x ≤ debt → p.control.line ≡ x.count.line → IsAmong (within x) numbers p →
-    AreIn x.block.call.surroundings p numbers (read_index x) f →
-    ((more : ℕ) → p.state.world.acts ≤ more →
-    Again x
-    (before x.block.call.code (goal_of x acts wanted debt) x.block.call.surroundings.acts (λ u. turns_of turns x))
-    more (size_of (read_code x) + test_length x.words + behind_test x)) →
-    Comes x.block.call.code 0 f (services_of p)
-    (before x.block.call.code (goal_of x acts wanted debt) x.block.call.surroundings.acts (chosen x turns))
-    (((M.within_limit (around_of x) (counter_of x.count) (Some x.limit) x.count.by) >>= met_next x)
-    x.block.call.surroundings.acts p.state)
-unfolding M.within_limit M.counter_number V.number ◌>>=◌ give
-due_does x ls turns acts wanted debt {numbers} {p} f since some paid owed line o there next' =
-    let w = x.block.call.surroundings in
-    let code = x.block.call.code in
-    let k = within x in
-    let goal = goal_of x acts wanted debt in
-    let closed = goal_closed x acts wanted debt in
-    let after = before code goal w.acts (chosen x turns) in
-    let tested = before code after w.acts (met_next x) in
-    let around' = around_of x in
-    let read' = read_code x in
-    let need = x.is.registers in
-    let y = behind p numbers 0 0 (read_index x) read' in
-    let size = ls.size in
-    let more = p.state.world.acts in
-    let give' : ℤ → Meaning Bool = λ z. give (M.has_not_passed x.limit x.count.by z) in
-    comes_on w.acts (M.within_limit around' (counter_of x.count) (Some x.limit) x.count.by w.acts p.state) (met_next x)
-    (comes_on w.acts (V.number around' (Y.NumberIn x.count.counter) w.acts p.state) give'
-    (comes_map (number_aims k x.labels y) (before code tested w.acts give') refl
-    (V.number around' (Y.NumberIn x.count.counter) w.acts p.state)
-    (λ c' f' v' z s q.
-    let q1 = q.1.point in
-    let since' = q.1.since in
-    let met = M.has_not_passed x.limit x.count.by z in
-    record {
-      to = λ early. subst (Comes code c' f' v' after) (sym (met_is around' met w.acts s))
-          (record {
-            to = λ early. subst (λ u. Comes code c' f' v' goal (chosen x turns met w.acts u)) (sym q.1.state)
-                (onward closed q.1.reach
-                (λ g at.
-                limited_does x ls closed (0 + size_of read') g z (turned x turns) (give tt) q.0 q.1.among at
-                (λ g2 at2.
-                met_does x ls turns acts wanted debt (0 + size_of read' + test_length x.words) g2
-                (omega (arith, since, since')) (omega (arith, some, since')) (omega (arith, paid)) q.1.among at2
-                (subst (λ n. Again x (before code goal w.acts (λ u. turns_of turns x)) q1.state.world.acts n)
-                (omega arith) (next' q1.state.world.acts since')))
-                (λ g2 at2.
-                past_does x acts wanted debt (0 + size_of read' + test_length x.words + behind_test x)
-                (test_index x + test_length x.words + behind_test x) g2 (omega (arith, since, since'))
-                (omega (arith, owed)) q.1.among (end_is x ls) at2)));
-          });
-    })
-    (λ c' f' v' height label s q. jumps_on x acts wanted debt more since c' f' v' height label s q)
-    (λ c' f' v' r s q. absurd q)
-    (x.counter.read p numbers 0 0 (read_index x) f o line (omega (arith, need), x.is.held) ls.read
-    (omega (arith, paid)) there)))
-
-pub turns_do :
-    (turns : ℕ) (x : Loop) → AreLinked x → (acts wanted debt c : ℕ) {numbers : ℕ → ℕ} {p : Point} (f : Family)
-    (z : ℤ) → IsWide z → acts ≤ p.state.world.acts → x.block.call.surroundings.acts < turns + p.state.world.acts →
-    c + size_of (put_code x) + size_of (act_code x.count.line) + x.most ≤ cost x.block.call.code →
-    turn_size x + x.most ≤ cost x.block.call.code → turn_size x ≤ debt → IsAmong (within x) numbers p →
-    p.control.line ≡ x.count.line →
-    ((b : Base) → IsIn x.block.call.surroundings p numbers (turns_index x.words x.block x.count x.index) b (f b)
-    × (value (f b).machine a0 ≡ word z)) →
-    Comes x.block.call.code c f (services_of p)
-    (before x.block.call.code (goal_of x acts wanted debt) x.block.call.surroundings.acts (λ u. turns_of turns x))
-    (assigns x z x.block.call.surroundings.acts p.state)
-unfolding repeated_while M.turn_due ◌>>=◌ ◌>>◌
-turns_do zero x ls acts wanted debt c f z wide since few paid all owed o line there =
-    let allowed = o.stands.allowed in
-    absurd (omega (arith, allowed, few))
-turns_do (suc turns) x ls acts wanted debt c {numbers} {p} f z wide since few paid all owed o line there =
-    let w = x.block.call.surroundings in
-    let code = x.block.call.code in
-    let k = within x in
-    let goal = goal_of x acts wanted debt in
-    let closed = goal_closed x acts wanted debt in
-    let put' = put_code x in
-    let one = act_code x.count.line in
-    let need = x.is.registers in
-    let i0 = turns_index x.words x.block x.count x.index in
-    let after = before code goal w.acts (chosen x turns) in
-    let due : Unit {0} → Meaning Bool =
-    λ u. (M.within_limit (around_of x) (counter_of x.count) (Some x.limit) x.count.by) >>= met_next x in
-    let all' : Unit {0} → Meaning (Unit {0}) = λ u. turns_of (suc turns) x in
-    comes_map (put_aims k x.labels p.state.world.acts (i0 + size_of put') (c + size_of put'))
-    (before code goal w.acts all') refl (assigns x z w.acts p.state)
-    (λ c' f' v' r s q.
-    let p1 = q.point in
-    let since1 = q.since in
-    subst (λ u. Comes code c' f' v' goal (turns_of (suc turns) x w.acts u)) (sym q.state)
-    (onward closed q.reach
-    (λ g at.
-    comes_on w.acts (test_of x w.acts p1.state) (chosen x turns)
-    (comes_on w.acts (act counted w.acts p1.state) due
-    (act_comes (before_closed w.acts due (before_closed w.acts (chosen x turns) closed)) x.count.line
-    (c + size_of put') 0 g (q.among.stands, q.among.image)
-    (x.is.act.line_fits, x.is.act.acts, omega (arith, paid)) ls.act at
-    (λ g2 less at2.
-    due_does x ls turns acts wanted debt g2 (omega (arith, since, since1)) (omega arith) all owed refl
-    (acted_among x.count.line q.among less) at2
-    (λ more since2 q2 after2 g3 z2 wide2 o2 since3 line2 there2.
-    turns_do turns x ls acts wanted debt (size_of (read_code x) + test_length x.words + behind_test x) g3 z2 wide2
-    (omega (arith, since, since1, since2, since3)) (omega (arith, few, since1, since2, since3)) (omega (arith, all)) all
-    owed o2 line2 there2)))))))
-    (λ c' f' v' height label s q. jumps_on x acts wanted debt p.state.world.acts since c' f' v' height label s q)
-    (λ c' f' v' r s q. absurd q)
-    (x.counter.put p numbers c i0 f z wide o line (omega (arith, need), x.is.held) ls.put (omega (arith, paid)) there)

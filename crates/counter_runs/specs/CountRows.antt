@@ -60,6 +60,7 @@ counting =
       limit = Y.NumberConstant 3;
       step = Y.NumberConstant 1;
       by = pos 1;
+      condition = None;
       body = count_turn;
       line = 4;
     }

@@ -1,5 +1,5 @@
--- DO with a FIXED BINARY(31) variable that counts up to a limit, by a step that is a constant.
-use Rattle.std.specs.Prelude.{ℕ, ◌+◌, ◌^◌, ◌<◌, ◌≤◌, ◌≡◌, ℤ, List, ◌∷◌, ◌++◌, None, Some}
+-- DO with a FIXED BINARY(31) variable that counts up to a limit, by a step that is a constant, with WHILE or without.
+use Rattle.std.specs.Prelude.{ℕ, ◌+◌, ◌^◌, ◌<◌, ◌≤◌, ◌≡◌, ℤ, List, ◌∷◌, ◌++◌, ⊤, None, Option, Some}
 use Rattle.rv_meaning.specs.Words.{word}
 use Rattle.pli_typing.specs.TypedTree as Y
 use Rattle.pli_meaning.specs.Control.{Label, Normal}
@@ -20,6 +20,7 @@ use Rattle.block_runs.specs.Machines.{AreIn}
 use Rattle.program_runs.specs.Statements.{Block, HasAct, IsAmong, IsBegun, set_aside, size_with, statement_aims}
 use Rattle.expression_runs.specs.Assignments.{setting_around}
 use Rattle.expression_runs.specs.Values.{Setting}
+use Rattle.test_runs.specs.Tests.{Tests}
 use Rattle.counter_runs.specs.Words.{telling, with_word}
 
 -- its parts; the precision is that of the start, and the step is a constant that comes to so much
@@ -30,6 +31,7 @@ pub record Counting : Type 0 where
   pub limit : Y.Number
   pub step : Y.Number
   pub by : ℤ
+  pub condition : Option Y.Bit
   pub body : Y.Stmts
   pub line : ℕ
 
@@ -41,7 +43,7 @@ value_of_start c = Y.NumberValue c.precision c.start
 
 abbrev pub count_of : Counting → Y.Stmt
 count_of c =
-    Y.DoCount (counter_of c) (value_of_start c) (Some c.limit) c.step None c.body c.line
+    Y.DoCount (counter_of c) (value_of_start c) (Some c.limit) c.step c.condition c.body c.line
 
 -- a step that is a constant of the code
 pub record IsStep (x : Y.Number) (z : ℤ) : Type 0 where
@@ -66,7 +68,7 @@ setting_with k labels line most words = setting_around words k labels line most
 
 abbrev pub turn_in : (words : ℕ) → Block → Counting → Turn
 turn_in words k c =
-    turn_of k.environment (set_aside words) (counter_of c) (Some c.limit) (Some c.by) None c.line
+    turn_of k.environment (set_aside words) (counter_of c) (Some c.limit) (Some c.by) c.condition c.line
     (stmts_code k.environment (in_turns (set_aside words)) c.body)
 
 abbrev pub begun_in : (words : ℕ) → Block → Counting → Code
@@ -83,6 +85,14 @@ turns_index words k c index = index + size_of (begun_in words k c)
 abbrev pub body_index : (words : ℕ) → Block → Counting → (index : ℕ) → ℕ
 body_index words k c index =
     turns_index words k c index + size_of (turn_in words k c).begun + size_of ((turn_in words k c).limit 0)
+    + size_of ((turn_in words k c).condition 0)
+
+-- ---- WHILE
+
+-- where it is there, its test comes to what it means
+abbrev pub IsTested : Setting → (need : ℕ) → Option Y.Bit → Type 0
+IsTested k need None = ⊤
+IsTested k need (Some x) = Tests k need x
 
 -- ---- the statements of a turn
 

@@ -16,12 +16,12 @@ use Rattle.element_runs.specs.Subscripts.{IsSubscript, SubscriptComes}
 use Rattle.test_runs.specs.Choices.{IsInnerWith}
 use Rattle.counter_runs.specs.Counters.{IsCounter}
 use Rattle.counter_runs.specs.Counts.{IsStep}
-use Rattle.counter_runs.specs.Counts.{Counting, IsCount, TurnDoes, body_index, count_of, setting_with, starting}
+use Rattle.counter_runs.specs.Counts.{Counting, IsCount, IsTested, TurnDoes, body_index, count_of, setting_with, starting}
 use Rattle.counter_runs.specs.Counts.{turning}
 use Rattle.counter_runs.specs.Words.{telling}
 
--- it does what it means if its start and its limit do, its variable is read and assigned, and its statements do,
--- whatever its limit is; it may stand in the turns of another one
+-- it does what it means if its start and its limit do, its variable is read and assigned, and its test and its
+-- statements do, whatever its limit is; it may stand in the turns of another one
 abbrev pub CountsDo : Type 0
 CountsDo =
     (words : ℕ) (k : Block) (c : Counting) (φ : Layer) (φs : List Layer) (labels : List Label)
@@ -31,6 +31,8 @@ CountsDo =
     ((y : ℤ) → IsWide y → IsCounter (setting_with (turning words φ φs k y) labels c.line most (words + 2)) need
     c.counter) →
     ((y : ℤ) → IsWide y → OverflowComes (setting_with (turning words φ φs k y) labels c.line most (words + 2))) →
+    ((y : ℤ) → IsWide y → IsTested (setting_with (turning words φ φs k y) labels c.line most (words + 2)) need
+    c.condition) →
     ((y : ℤ) → IsWide y → TurnDoes words (turning words φ φs k y) labels c.body (body_index words k c index) left') →
     DoesWith words k labels (count_of c) index left'
 

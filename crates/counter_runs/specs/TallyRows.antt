@@ -90,6 +90,7 @@ tallying =
       limit = Y.NumberConstant 3;
       step = Y.NumberConstant 1;
       by = pos 1;
+      condition = None;
       body = tally_turn;
       line = 7;
     }

@@ -27,6 +27,7 @@ pub mod Rows
 pub mod AlarmRows
 pub mod CallRows
 pub mod CountRows
+pub mod LoopRows
 pub mod NestRows
 pub mod PutRows
 pub mod ArrayRows

@@ -6,7 +6,7 @@ use Rattle.pli_typing.specs.TypedTree as Y
 use Rattle.expression_runs.specs.Variables.{Spot, whole}
 use Rattle.counter_runs.specs.Counts.{Counting, IsStep, count_of}
 use Rattle.counter_runs.proofs.StepConstants.{down_step, up_step}
-use Rattle.number_runs.specs.Counting.{is_count, is_counter, is_limit, is_start, is_step}
+use Rattle.number_runs.specs.Counting.{is_condition, is_count, is_counter, is_limit, is_start, is_step}
 use Rattle.number_runs.specs.Numbers.{Scope, is_known, is_number, is_variable, number_needs, number_sets}
 use Rattle.number_runs.proofs.Variables.{variable_is}
 
@@ -136,7 +136,7 @@ pub record IsCounting (s : Scope) (k : Y.Counter) (v : Y.Value) (o : Option Y.Nu
     pub step_known : is_number s x ≡ true
     pub step_few : number_needs x ≤ 1
     pub step_sets : number_sets x ≡ 0
-    pub endless : w ≡ None
+    pub tested : is_condition s w ≡ true
     pub known : is_known s spot ≡ true
     pub first_known : is_number s first ≡ true
     pub last_known : is_number s last ≡ true
@@ -144,15 +144,17 @@ pub record IsCounting (s : Scope) (k : Y.Counter) (v : Y.Value) (o : Option Y.Nu
 pub counting_is :
     (s : Scope) (k : Y.Counter) (v : Y.Value) (o : Option Y.Number) (x : Y.Number) (w : Option Y.Bit) →
     is_count s k v o x w ≡ true → IsCounting s k v o x w
-counting_is s k v o x None h =
-    let f = and_parts s.overflows (is_counter s k && (is_start s v && (is_limit s o && is_step x))) h in
-    let a = and_parts (is_counter s k) (is_start s v && (is_limit s o && is_step x)) f.1 in
-    let b = and_parts (is_start s v) (is_limit s o && is_step x) a.1 in
-    let c = and_parts (is_limit s o) (is_step x) b.1 in
+counting_is s k v o x w h =
+    let last = is_step x && is_condition s w in
+    let f = and_parts s.overflows (is_counter s k && (is_start s v && (is_limit s o && last))) h in
+    let a = and_parts (is_counter s k) (is_start s v && (is_limit s o && last)) f.1 in
+    let b = and_parts (is_start s v) (is_limit s o && last) a.1 in
+    let c = and_parts (is_limit s o) last b.1 in
+    let d = and_parts (is_step x) (is_condition s w) c.1 in
     let spot' = counter_is s k a.0 in
     let first' = first_is s v b.0 in
     let last' = last_is s o c.0 in
-    let step' = step_is s x f.0 c.1 in
+    let step' = step_is s x f.0 d.0 in
     record {
       overflows = f.0;
       spot = spot'.spot;
@@ -167,17 +169,16 @@ counting_is s k v o x None h =
       step_known = step'.known;
       step_few = step'.few;
       step_sets = step'.sets;
-      endless = refl;
+      tested = d.1;
       known = spot'.known;
       first_known = first'.known;
       last_known = last'.known;
     }
-counting_is s k v o x (Some c) h = absurd (cc h)
 
 abbrev pub counting_of :
     {s : Scope} → {k : Y.Counter} → {v : Y.Value} → {o : Option Y.Number} → {x : Y.Number} → {w : Option Y.Bit} →
     IsCounting s k v o x w → Y.Stmts → (line : ℕ) → Counting
-counting_of {x = x} h body line =
+counting_of {x = x} {w = w} h body line =
     record {
       counter = whole h.spot;
       precision = h.precision;
@@ -185,6 +186,7 @@ counting_of {x = x} h body line =
       limit = h.last;
       step = x;
       by = h.by;
+      condition = w;
       body = body;
       line = line;
     }
@@ -198,5 +200,3 @@ statement_is {s} {k} {v} {o} {x} {w} h body line =
     ∙ ap (λ v'. Y.DoCount (Y.NumberCounter 31 (whole h.spot)) v' o x w body line) h.start
     ∙ ap (λ o'. Y.DoCount (Y.NumberCounter 31 (whole h.spot)) (Y.NumberValue h.precision h.first) o' x w body line)
     h.limit
-    ∙ ap (λ w'. Y.DoCount (Y.NumberCounter 31 (whole h.spot)) (Y.NumberValue h.precision h.first) (Some h.last) x w'
-    body line) h.endless

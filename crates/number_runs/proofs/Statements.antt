@@ -1,6 +1,7 @@
 -- Statements of the class: each does what it means, by the law of its form.
 use Rattle.std.proofs.Common.{◌≡◌, ◌⊎◌, inl, inr, ℕ, suc, ◌+◌, ◌^◌, ◌≤◌, List, [], ◌∷◌, ◌++◌, true, false, refl, sym}
-use Rattle.std.proofs.Common.{ap, ◌∙◌, None, subst, arith}
+use Rattle.std.proofs.Common.{ap, ◌∙◌, None, Some, subst, arith}
+use Rattle.std.proofs.lemmas.List.{append_assoc}
 use Rattle.std.specs.Prelude.{◌&&◌, ◌||◌, ◌==◌, Bool, ℤ, max, not, Option}
 use Rattle.rv_meaning.specs.Words.{word}
 use Rattle.std.proofs.lemmas.Bool.{and_parts, ltb-true, or_cases}
@@ -11,7 +12,10 @@ use Rattle.pli_meaning.specs.Executing.{labels_in}
 use Rattle.pli_coding.specs.Allocating.{act_code}
 use Rattle.pli_coding.specs.Assembly.{JumpAhead, JumpBack, size_of}
 use Rattle.pli_coding.specs.Expressions.{bit_code}
-use Rattle.pli_coding.specs.Statements.{if_met, marked, one_of, stmt_code, stmts_code, while_met}
+use Rattle.pli_coding.specs.Statements.{if_met, marked, once_code, one_of, stmt_code, stmts_code, while_met}
+use Rattle.pli_coding.specs.Storing.{assignment_code}
+use Rattle.run_steps.specs.Items.{Linked}
+use Rattle.run_steps.proofs.Jumps.{front_of}
 use Rattle.run_steps.proofs.Linking.{size_append}
 use Rattle.program_places.specs.Placed.{Placed}
 use Rattle.program_places.proofs.Labels.{marked_with}
@@ -30,9 +34,12 @@ use Rattle.counter_runs.specs.Counts as N
 use Rattle.counter_runs.specs.Words.{with_word}
 use Rattle.counter_runs.proofs.Bodies.{turn_does}
 use Rattle.counter_runs.proofs.Counts.{count_does}
-use Rattle.counter_runs.proofs.Needs.{does_more}
+use Rattle.counter_runs.proofs.Needs.{does_more, tests_more}
 use Rattle.counter_runs.proofs.Scalars.{number_counts}
-use Rattle.number_runs.specs.Counting.{count_needs, count_sets, is_count, limit_needs, limit_sets, start_needs}
+use Rattle.once_runs.specs.Onces.{Once, once_of, started, turn_index}
+use Rattle.once_runs.proofs.Onces.{plain_once, tested_once}
+use Rattle.number_runs.specs.Counting.{condition_needs, condition_sets, count_needs, count_sets, is_condition, is_count}
+use Rattle.number_runs.specs.Counting.{limit_needs, limit_sets, start_needs}
 use Rattle.number_runs.specs.Counting.{start_sets}
 use Rattle.number_runs.specs.Knowledge.{AreAround, AreStanding, AreStandingWith, HasFrame, IsReady}
 use Rattle.number_runs.specs.Knowledge.{Includes, MayBeSet, Standing}
@@ -126,6 +133,47 @@ turns_stand h condition body line index at =
     (placed_front all jump
     (placed_back (past part) part (placed_back test (if_met part) (placed_back one (while_met test all) at))))
 
+-- behind an assignment that begins a DO
+started_linked :
+    (h : Home) (x : Once) (condition : Option Y.Bit) (index : ℕ) →
+    StandingWith h.words h.block (once_of condition x) index →
+    Linked h.block.call.surroundings.links h.block.call.code index
+    (stmt_code h.block.environment (set_aside h.words) (started x))
+started_linked h x condition index at =
+    let one = act_code x.line in
+    let put = assignment_code h.block.environment (set_aside h.words) x.variable x.start in
+    let rest = once_code h.block.environment (set_aside h.words) condition x.line
+    (stmts_code h.block.environment (set_aside h.words) x.body) in
+    front_of (one ++ put) rest
+    (subst (λ xs. Linked h.block.call.surroundings.links h.block.call.code index xs)
+    (sym (append_assoc one put rest)) at.linked)
+
+body_stands :
+    (h : Home) (x : Once) (index : ℕ) → StandingWith h.words h.block (once_of None x) index →
+    AreStandingWith h.words h.block x.body (turn_index h.words h.block x None index)
+body_stands h x index at =
+    let one = act_code x.line in
+    let put = assignment_code h.block.environment (set_aside h.words) x.variable x.start in
+    let all = stmts_code h.block.environment (set_aside h.words) x.body in
+    let n0 = size_append one put in
+    subst (λ i. Placed h.block.call.surroundings.links h.block.call.code i all) (omega (arith, n0))
+    (placed_back put all (placed_back one (put ++ all) at))
+
+tested_stands :
+    (h : Home) (x : Once) (b : Y.Bit) (index : ℕ) → StandingWith h.words h.block (once_of (Some b) x) index →
+    AreStandingWith h.words h.block x.body (turn_index h.words h.block x (Some b) index)
+tested_stands h x b index at =
+    let one = act_code x.line in
+    let put = assignment_code h.block.environment (set_aside h.words) x.variable x.start in
+    let test = bit_code h.block.environment (set_aside h.words) b in
+    let all = stmts_code h.block.environment (set_aside h.words) x.body in
+    let rest = one ++ (test ++ if_met all) in
+    let n0 = size_append one put in
+    subst (λ i. Placed h.block.call.surroundings.links h.block.call.code i all) (omega (arith, n0))
+    (placed_back (past all) all
+    (placed_back test (if_met all) (placed_back one (test ++ if_met all)
+    (placed_back put rest (placed_back one (put ++ rest) at)))))
+
 marked_in :
     (h : Home) (body : Y.Stmts) (index : ℕ) → AreStandingWith h.words h.block body index →
     AreMarkedWith h.words h.block.call.surroundings.links h.block.environment body index
@@ -217,22 +265,35 @@ abbrev Goes : (h : Home) → List Label → (index : ℕ) → Y.Stmt → Type 0
 Goes h labels index stmt =
     StandingWith h.words h.block stmt index → DoesWith h.words h.block labels stmt index h.left'
 
+-- WHILE in a turn, with as many registers as the loop has
+while_is :
+    (t : Home) (labels : List Label) (line need : ℕ) (w : Option Y.Bit) (includes : Includes t.own labels) →
+    is_condition t.scope w ≡ true → condition_needs w ≤ need →
+    ((n : ℕ) → n ≤ condition_sets w → HasFrame t.ready t.words n) →
+    N.IsTested (N.setting_with t.block labels line t.most t.words) need w
+while_is t labels line need None includes is few sets = tt
+while_is t labels line need (Some b) includes is few sets =
+    let k' = N.setting_with t.block labels line t.most t.words in
+    tests_more k' (test_needs b) need b few
+    (test_does t.scope k' b (knows t labels line includes) is
+    (lists_at t labels line includes (test_sets b) (test_sets b) (omega arith) (sets (test_sets b) (omega arith))))
+
 counts_by :
     (h : Home) (labels : List Label) {k : Y.Counter} {v : Y.Value} {o : Option Y.Number} {n : Y.Number}
     {w : Option Y.Bit} (x : IsCounting h.scope k v o n w) (body : Y.Stmts) (line index : ℕ) → PlacedIn h labels →
     is_line line ≡ true → (c : h.scope.counts ≡ true) → (none : h.scope.locates ≡ false) →
-    count_needs v o ≤ h.block.registers →
-    HasFrame h.ready h.words (max (3 + count_sets v o) (2 + statements_set body)) →
+    max (count_needs v o) (condition_needs w) ≤ h.block.registers →
+    HasFrame h.ready h.words (max (3 + count_sets v o) (2 + max (condition_sets w) (statements_set body))) →
     (sets : HasFrame h.ready h.words 3) → ((y : ℤ) → TurnStands (in_turn h c none sets y) labels body) →
     Goes h labels index (N.count_of (counting_of x body line))
-counts_by h labels {v = v} {o = o} x body line index placed is c none fits all sets each at =
+counts_by h labels {v = v} {o = o} {w = w} x body line index placed is c none fits all sets each at =
     let count = counting_of x body line in
     let l = h.ready.loops c in
     let q = all c in
     let low = q.0 in
     let room = q.1 in
     let most' = l.few in
-    let need = count_needs v o in
+    let need = max (count_needs v o) (condition_needs w) in
     let first : start_needs v ≡ number_needs x.first = ap start_needs x.start in
     let last : limit_needs o ≡ number_needs x.last = ap limit_needs x.limit in
     let three = h.words + 3 in
@@ -284,6 +345,10 @@ counts_by h labels {v = v} {o = o} x body line index placed is c none fits all s
     (λ y wide. let t = in_turn h c none sets y in
     (knows_in t.ready (h.words + 2) t.set t.low t.plain labels line placed.includes).overflow x.overflows)
     (λ y wide. let t = in_turn h c none sets y in
+    while_is t labels line need w placed.includes x.tested (omega arith)
+    (λ n less. frame_told h.ready c none (with_word h.words (word y) l.layer.waits) (h.words + 2) (turn_free h c sets y)
+    (h.words + 2) n (omega arith) (omega (arith, room, less))))
+    (λ y wide. let t = in_turn h c none sets y in
     let i = N.body_index h.words h.block count index in
     let stands = turn_stands h.words h.block count index x.step at in
     turn_does h.words t.block labels body i h.left'
@@ -298,8 +363,8 @@ counted_does :
     (h : Home) (labels : List Label) {k : Y.Counter} {v : Y.Value} {o : Option Y.Number} {n : Y.Number}
     {w : Option Y.Bit} (x : IsCounting h.scope k v o n w) (body : Y.Stmts) (line index : ℕ) → PlacedIn h labels →
     is_line line ≡ true → (c : h.scope.counts ≡ true) → (none : h.scope.locates ≡ false) →
-    count_needs v o ≤ h.block.registers →
-    HasFrame h.ready h.words (max (3 + count_sets v o) (2 + statements_set body)) →
+    max (count_needs v o) (condition_needs w) ≤ h.block.registers →
+    HasFrame h.ready h.words (max (3 + count_sets v o) (2 + max (condition_sets w) (statements_set body))) →
     (sets : HasFrame h.ready h.words 3) → ((y : ℤ) → TurnStands (in_turn h c none sets y) labels body) →
     Goes h labels index (Y.DoCount k v o n w body line)
 counted_does h labels x body line index placed is c none fits all sets each =
@@ -321,6 +386,44 @@ assignment_does h labels target source line index includes is (inl h') fits sets
     given_does h labels target source line index includes is b.0 b.1 (omega (arith, fits, n)) sets
 assignment_does h labels target source line index includes is (inr h') fits sets =
     narrowed_does h labels target source line index includes is h' fits sets
+
+-- ---- DO with a variable that starts once
+
+once_does :
+    (h : Home) (labels : List Label) (x : Once) (condition : Option Y.Bit) (index : ℕ) → PlacedIn h labels →
+    is_line x.line ≡ true → is_condition h.scope condition ≡ true → condition_needs condition ≤ h.block.registers →
+    ((n : ℕ) → n ≤ condition_sets condition → HasFrame h.ready h.words n) →
+    Coded h labels (started x) index →
+    ((i : ℕ) → PlacedIn h (labels_in x.body ++ labels) → AreStandingWith h.words h.block x.body i →
+    EachDoesWith h.words h.block (labels_in x.body ++ labels) x.body i h.left') →
+    Goes h labels index (once_of condition x)
+once_does h labels x None index placed line is fits sets does each at =
+    let i = turn_index h.words h.block x None index in
+    let stands = body_stands h x index at in
+    plain_once h.words h.block labels x index h.left'
+    (record {
+      begun = h.ready.begun;
+      statement = at.linked;
+      marks = marked_in h x.body i stands;
+      turns = h.ready.turns;
+    })
+    (does (started_linked h x None index at))
+    (each i (placed_in h.words h.block h.own x.body i labels stands placed) stands)
+once_does h labels x (Some b) index placed line is fits sets does each at =
+    let i = turn_index h.words h.block x (Some b) index in
+    let stands = tested_stands h x b index at in
+    tested_once h.words h.block labels x b index h.left' (test_needs b) h.most
+    (record {
+      begun = h.ready.begun;
+      statement = at.linked;
+      marks = marked_in h x.body i stands;
+      turns = h.ready.turns;
+    })
+    (has_test h (once_of (Some b) x) b x.line index line fits at.linked)
+    (does (started_linked h x (Some b) index at))
+    (test_does h.scope (setting_around h.words h.block labels x.line h.most) b (knows h labels x.line placed.includes) is
+    (lists_at h labels x.line placed.includes (test_sets b) (test_sets b) (omega arith) (sets (test_sets b) (omega arith))))
+    (each i (placed_in h.words h.block h.own x.body i labels stands placed) stands)
 
 -- ---- all forms
 
@@ -448,7 +551,24 @@ mutual
       let a = and_parts (is_line line) (h.scope.locates && one) is in
       let b = and_parts h.scope.locates one a.1 in
       emptied_does h labels target line index placed.includes a.0 b.0 b.1 at.linked
-  statement_does h labels (Y.DoOnce variable start condition body line) index placed is fits sets at = absurd (cc is)
+  statement_does h labels (Y.DoOnce variable start condition body line) index placed is fits sets at =
+      let one = is_reference h.scope variable && is_stored h.scope start in
+      let other = is_narrowed h.scope variable start in
+      let inner = are_statements h.scope h.valued (labels_in body ++ labels) body in
+      let a = and_parts (is_line line) ((one || other) && (is_condition h.scope condition && inner)) is in
+      let b = and_parts (one || other) (is_condition h.scope condition && inner) a.1 in
+      let c = and_parts (is_condition h.scope condition) inner b.1 in
+      let x : Once = record { variable = variable; start = start; body = body; line = line } in
+      let needs = max (stored_needs start) (behind_stored start (reference_needs variable)) in
+      let words = max (stored_sets start) (reference_sets variable) in
+      let all = max words (max (condition_sets condition) (statements_set body)) in
+      once_does h labels x condition index placed a.0 c.0 (omega (arith, fits))
+      (λ n less. fewer h n all (omega (arith, less)) sets)
+      (assignment_does h labels variable start line index placed.includes a.0 (or_cases one other b.0)
+      (omega (arith, fits)) (fewer h words all (omega arith) sets))
+      (λ i placed' at'.
+      statements_do h (labels_in body ++ labels) body i placed' c.1 (omega (arith, fits))
+      (fewer h (statements_set body) all (omega arith) sets) at') at
   statement_does h labels (Y.DoCount counter start limit step condition body line) index placed is fits sets at =
       let g = unlocated h in
       let inner = are_statements g.scope h.valued (labels_in body ++ labels) body in
@@ -457,7 +577,7 @@ mutual
       let b = and_parts h.scope.counts (counts' && inner) a.1 in
       let c = and_parts counts' inner b.1 in
       let x = counting_is g.scope counter start limit step condition c.0 in
-      let need = max (3 + count_sets start limit) (2 + statements_set body) in
+      let need = max (3 + count_sets start limit) (2 + max (condition_sets condition) (statements_set body)) in
       let all = frame_unlocated h.ready h.words need sets in
       let three = fewer g 3 need (omega arith) all in
       counted_does g labels x body line index placed a.0 b.0 refl (omega (arith, fits)) all three

@@ -1,10 +1,9 @@
 -- What the temporaries of the class take: as many registers as its expressions need, and the words of the frame that
 -- loops and lists of arguments set aside.
--- as many registers more as are needed, at least, and no words
-use Rattle.std.proofs.Common.{◌≡◌, ◌⊎◌, inl, inr, ℕ, suc, ◌+◌, ◌<◌, ◌≤◌, List, [], ◌∷◌, ◌++◌, true, refl, sym}
+use Rattle.std.proofs.Common.{◌≡◌, ◌⊎◌, inl, inr, ℕ, suc, ◌+◌, ◌≤◌, List, [], ◌∷◌, ◌++◌, true, refl, sym}
 use Rattle.std.proofs.Common.{ap, subst, arith, None, Option, Some}
-use Rattle.std.specs.Prelude.{◌&&◌, ◌||◌, ◌==◌, Bool, max, if◌then◌else◌}
-use Rattle.std.proofs.lemmas.Bool.{and_parts, lt-ltb, or_cases}
+use Rattle.std.specs.Prelude.{◌&&◌, ◌||◌, ◌==◌, Bool, max}
+use Rattle.std.proofs.lemmas.Bool.{and_parts, or_cases}
 use Rattle.pli_typing.specs.TypedTree as Y
 use Rattle.pli_meaning.specs.Control.{Label}
 use Rattle.pli_meaning.specs.Executing.{labels_in}
@@ -12,18 +11,18 @@ use Rattle.pli_coding.specs.Allocating.{allocations_take, freeings_take}
 use Rattle.pli_coding.specs.Expressions.{argument_count, list_words}
 use Rattle.pli_coding.specs.Environments.{Taken, most_taken, with_number, with_words}
 use Rattle.pli_coding.specs.Registers.{held_registers}
-use Rattle.pli_coding.specs.Statements.{stmt_takes, stmts_take}
+use Rattle.pli_coding.specs.Statements.{bit_if_takes, stmt_takes, stmts_take}
 use Rattle.pli_coding.specs.Storing.{assigned_takes}
 use Rattle.pli_coding.specs.Streams.{put_item_takes, put_items_take, put_takes}
 use Rattle.pli_coding.specs.Temporaries.{argument_takes, arguments_take, bit_takes, call_takes, number_takes}
 use Rattle.pli_coding.specs.Temporaries.{numbers_take, reference_takes, stored_takes, text_takes}
 use Rattle.program_runs.specs.Statements.{set_aside}
 use Rattle.expression_runs.specs.Variables.{Spot, whole}
-use Rattle.area_runs.specs.Based.{through}
 use Rattle.argument_runs.specs.Parameters.{parameter}
 use Rattle.counter_runs.specs.Counts.{count_of}
-use Rattle.number_runs.specs.Counting.{count_needs, count_sets, is_count, limit_needs, limit_sets, start_needs}
-use Rattle.number_runs.specs.Counting.{start_sets}
+use Rattle.number_runs.specs.Counting.{condition_needs, condition_sets, count_needs, count_sets, is_condition}
+use Rattle.number_runs.specs.Counting.{is_count, limit_needs}
+use Rattle.number_runs.specs.Counting.{limit_sets, start_needs, start_sets}
 use Rattle.number_runs.specs.Numbers.{Scope, are_arguments, are_numbers, argument_needs, argument_sets}
 use Rattle.number_runs.specs.Numbers.{arguments_need, arguments_set, call_needs, call_sets, gives_lists, is_argument}
 use Rattle.number_runs.specs.Numbers.{is_element, is_fixed, is_given, is_number, is_reference, is_test}
@@ -42,220 +41,13 @@ use Rattle.number_runs.specs.Statements.{allocation_sets, freeing_sets, is_alloc
 use Rattle.number_runs.proofs.Arrays.{element_is}
 use Rattle.number_runs.proofs.Based.{allocation_is, freeing_is, through_is}
 use Rattle.number_runs.proofs.Counters.{IsCounting, counting_is, counting_of, statement_is}
-use Rattle.number_runs.proofs.Narrow.{narrow_with_is}
 use Rattle.number_runs.proofs.Unset.{number_unset, test_unset}
-use Rattle.number_runs.proofs.Variables.{behind_number, parameter_is, variable_is}
-
--- as many registers more as are needed, at least, and no words
-pub record Takes (need : ℕ) (t taken : Taken) : Type 0 where
-  pub registers : t.registers + need ≤ taken.registers
-  pub words : taken.words ≡ t.words
-
--- or so many words
-pub record Sets (need sets : ℕ) (t taken : Taken) : Type 0 where
-  pub registers : t.registers + need ≤ taken.registers
-  pub words : taken.words ≡ t.words + sets
-
-abbrev one_more : Taken → Taken
-one_more t = record t { registers = t.registers + 1 }
-
-next_number : (t : Taken) → t.registers < held_registers → with_number t ≡ one_more t
-next_number t less =
-    ap (λ q. if q then one_more t else with_words 1 t) (lt-ltb t.registers held_registers less)
-
-pub takes_none : (t : Taken) → Takes 0 t t
-takes_none t = record { registers = omega arith; words = refl }
-
-takes_either : (m n : ℕ) (t a b : Taken) → Takes m t a → Takes n t b → Takes (max m n) t (most_taken a b)
-takes_either m n t a b x y =
-    let p = x.registers in
-    let q = y.registers in
-    let u = x.words in
-    let v = y.words in
-    record { registers = omega (arith, p, q); words = omega (arith, u, v) }
-
--- with one number more that waits
-takes_signed : (n : ℕ) (t a : Taken) → t.registers < held_registers → Takes n t a →
-    Takes (max n 1) t (most_taken (with_number t) a)
-takes_signed n t a less x =
-    let p = x.registers in
-    let u = x.words in
-    subst (λ t'. Takes (max n 1) t (most_taken t' a)) (sym (next_number t less))
-    (record { registers = omega (arith, p); words = omega (arith, u) })
-
--- behind one number that waits
-takes_next :
-    (q : ℕ) (t : Taken) (take : Taken → Taken) → t.registers < held_registers →
-    Takes q (one_more t) (take (one_more t)) → Takes (suc q) t (take (with_number t))
-takes_next q t take less x =
-    let c = x.registers in
-    let u = x.words in
-    subst (λ t'. Takes (suc q) t (take t')) (sym (next_number t less))
-    (record { registers = omega (arith, c); words = omega (arith, u) })
-
-takes_of : (need sets : ℕ) (t taken : Taken) → sets ≡ 0 → Sets need sets t taken → Takes need t taken
-takes_of need sets t taken none x =
-    let p = x.registers in
-    let u = x.words in
-    record { registers = omega (arith, p); words = omega (arith, u, none) }
-
-sets_none : (t : Taken) → Sets 0 0 t t
-sets_none t = record { registers = omega arith; words = omega arith }
-
-sets_no_words : (need : ℕ) (t taken : Taken) → Takes need t taken → Sets need 0 t taken
-sets_no_words need t taken x =
-    let p = x.registers in
-    let u = x.words in
-    record { registers = omega (arith, p); words = omega (arith, u) }
-
-sets_either :
-    (m n p q : ℕ) (t a b : Taken) → Sets m p t a → Sets n q t b → Sets (max m n) (max p q) t (most_taken a b)
-sets_either m n p q t a b x y =
-    let c = x.registers in
-    let d = y.registers in
-    let u = x.words in
-    let v = y.words in
-    record { registers = omega (arith, c, d); words = omega (arith, u, v) }
-
--- behind what takes no words
-pub sets_behind : (m n q : ℕ) (t a b : Taken) → Takes m t a → Sets n q t b → Sets (max m n) q t (most_taken a b)
-sets_behind m n q t a b x y =
-    let c = x.registers in
-    let d = y.registers in
-    let u = x.words in
-    let v = y.words in
-    record { registers = omega (arith, c, d); words = omega (arith, u, v) }
-
--- one value waits while another is computed
-sets_both :
-    (m n p q : ℕ) (t a b : Taken) → Sets m p t a → Sets n q (one_more t) b →
-    Sets (max m (suc n)) (max p q) t (most_taken a b)
-sets_both m n p q t a b x y =
-    let c = x.registers in
-    let d = y.registers in
-    let u = x.words in
-    let v = y.words in
-    record { registers = omega (arith, c, d); words = omega (arith, u, v) }
-
-sets_signed : (n p : ℕ) (t a : Taken) → t.registers < held_registers → Sets n p t a →
-    Sets (max n 1) p t (most_taken (with_number t) a)
-sets_signed n p t a less x =
-    let c = x.registers in
-    let u = x.words in
-    subst (λ t'. Sets (max n 1) p t (most_taken t' a)) (sym (next_number t less))
-    (record { registers = omega (arith, c); words = omega (arith, u) })
-
-whole_takes : (t : Taken) (x : Spot) → Sets 0 0 t (reference_takes t (whole x))
-whole_takes t x = record { registers = omega arith; words = omega arith }
-
-parameter_takes : (t : Taken) (x : Spot) → Sets 0 0 t (reference_takes t (parameter x))
-parameter_takes t x = record { registers = omega arith; words = omega arith }
-
--- the words of a name, and of the number of its signature
-through_takes : (t : Taken) (p n : Spot) → Sets 0 5 t (reference_takes t (through p n))
-through_takes t p n = record { registers = omega arith; words = omega arith }
-
-scalar_takes :
-    (s : Scope) (r : Y.Reference) (t : Taken) → (is_variable s r ≡ true) ⊎ (is_given s r ≡ true) →
-    Sets 0 0 t (reference_takes t r)
-scalar_takes s r t (inl h) =
-    let v = variable_is s r h in
-    subst (λ q. Sets 0 0 t (reference_takes t q)) (sym v.is) (whole_takes t v.spot)
-scalar_takes s r t (inr h) =
-    let v = parameter_is s r h in
-    subst (λ q. Sets 0 0 t (reference_takes t q)) (sym v.is) (parameter_takes t v.spot)
-
--- a subscript is computed, and waits
-subscript_takes : (n p : ℕ) (t a : Taken) → t.registers < held_registers → Sets n p t a →
-    Sets (max n 1) (max p 0) t (most_taken t (most_taken a (with_number t)))
-subscript_takes n p t a less x =
-    let c = x.registers in
-    let u = x.words in
-    subst (λ t'. Sets (max n 1) (max p 0) t (most_taken t (most_taken a t'))) (sym (next_number t less))
-    (record { registers = omega (arith, c); words = omega (arith, u) })
-
--- where nothing is located
-unlocated_takes : (n p : ℕ) (t a : Taken) → Sets n p t a → Sets n (max 0 p) t a
-unlocated_takes n p t a x =
-    let u = x.words in
-    record { registers = x.registers; words = omega (arith, u) }
-
--- behind the words of a list
-list_takes :
-    (n p q : ℕ) (t a : Taken) → Sets n p (with_words q t) a → Sets n (q + p) t a
-list_takes n p q t a x =
-    let c = x.registers in
-    let u = x.words in
-    record { registers = omega (arith, c); words = omega (arith, u) }
-
-abbrev Fits : (t : Taken) → (need : ℕ) → Type 0
-Fits t need = t.registers + need ≤ held_registers
-
--- a value waits while another is computed with what is taken then
-sets_two :
-    (m n p q : ℕ) (t a : Taken) (take : Taken → Taken) → Fits t (max m (suc n)) → Sets m p t a →
-    Sets n q (one_more t) (take (one_more t)) →
-    Sets (max m (suc n)) (max p q) t (most_taken a (take (with_number t)))
-sets_two m n p q t a take fits x y =
-    subst (λ t'. Sets (max m (suc n)) (max p q) t (most_taken a (take t')))
-    (sym (next_number t (omega (arith, fits)))) (sets_both m n p q t a (take (one_more t)) x y)
-
-pub narrow_taken :
-    (s : Scope) (test : Y.LeafType → Bool) (r : Y.Reference) (t : Taken) → is_narrow_with s test r ≡ true →
-    Sets (reference_needs r) (reference_sets r) t (reference_takes t r)
-narrow_taken s test r t h =
-    let w = narrow_with_is s test r h in
-    subst (λ q. Sets (reference_needs q) (reference_sets q) t (reference_takes t q)) (sym w.is) (whole_takes t w.spot)
-
-flag_taken :
-    (s : Scope) (r : Y.Reference) (t : Taken) → is_narrow_with s is_bit r ≡ true → Sets 0 0 t (bit_takes t (Y.BitIn r))
-flag_taken s r t h =
-    let w = narrow_with_is s is_bit r h in
-    subst (λ q. Sets 0 0 t (reference_takes t q)) (sym w.is) (whole_takes t w.spot)
-
-text_in_taken :
-    (s : Scope) (r : Y.Reference) (t : Taken) → is_narrow_with s is_text_type r ≡ true →
-    Takes 0 t (text_takes t (Y.TextIn r))
-text_in_taken s r t h =
-    let w = narrow_with_is s is_text_type r h in
-    let x = whole_takes t w.spot in
-    let c = x.registers in
-    let u = x.words in
-    subst (λ q. Takes 0 t (reference_takes t q)) (sym w.is)
-    (record { registers = omega (arith, c); words = omega (arith, u) })
-
-named_taken :
-    (s : Scope) (r : Y.Reference) (t : Taken) →
-    (is_reference s r ≡ true) ⊎ (is_narrow_with s is_number_type r ≡ true) →
-    (is_reference s r ≡ true → Sets (reference_needs r) (reference_sets r) t (reference_takes t r)) →
-    Sets (reference_needs r) (reference_sets r) t (reference_takes t r)
-named_taken s r t (inl h) one = one h
-named_taken s r t (inr h) one = narrow_taken s is_number_type r t h
-
-given_are :
-    (s : Scope) (number level : ℕ) (xs : Y.Arguments) → is_number s (Y.NumberFrom (Y.Calling number level xs)) ≡ true →
-    are_arguments (without_located s) xs ≡ true
-given_are s number level Y.NoArgument h = refl
-given_are s number level (Y.ArgumentThen first rest) h =
-    let xs = Y.ArgumentThen first rest in
-    let taken = s.is_given_function (suc (argument_count rest)) level number in
-    let a = and_parts (gives_lists s) (taken && are_arguments (without_located s) xs) h in
-    (and_parts taken (are_arguments (without_located s) xs) a.1).1
-
--- a number takes no words where calls have no arguments
-unset_taken :
-    (s : Scope) (x : Y.Number) (t : Taken) → IsBare s → is_number s x ≡ true →
-    Sets (number_needs x) (number_sets x) t (number_takes t x) → Takes (number_needs x) t (number_takes t x)
-unset_taken s x t none h taken =
-    takes_of (number_needs x) (number_sets x) t (number_takes t x) (number_unset s x none h) taken
-
-two_texts_taken :
-    (left right : Y.Text) (t : Taken) → Takes (text_needs left) t (text_takes t left) →
-    Takes (text_needs right) t (text_takes t right) →
-    Sets (max (text_needs left) (text_needs right)) 0 t (most_taken (text_takes t left) (text_takes t right))
-two_texts_taken left right t x y =
-    sets_no_words (max (text_needs left) (text_needs right)) t (most_taken (text_takes t left) (text_takes t right))
-    (takes_either (text_needs left) (text_needs right) t (text_takes t left) (text_takes t right) x y)
+use Rattle.number_runs.proofs.Variables.{behind_number}
+use Rattle.number_runs.proofs.Taking.{Takes, Sets, one_more, takes_none, takes_either, takes_signed, takes_next}
+use Rattle.number_runs.proofs.Taking.{takes_of, sets_none, sets_no_words, sets_either, sets_signed, through_takes}
+use Rattle.number_runs.proofs.Taking.{scalar_takes, subscript_takes, unlocated_takes, list_takes, Fits, sets_two}
+use Rattle.number_runs.proofs.Taking.{narrow_taken, flag_taken, text_in_taken, named_taken, given_are, unset_taken}
+use Rattle.number_runs.proofs.Taking.{two_texts_taken}
 
 mutual
   pub number_taken :
@@ -549,18 +341,27 @@ assignment_taken words s target source (inl h) fits =
     (assigned_taken words s target source b.0 b.1 (omega (arith, fits, n)))
 assignment_taken words s target source (inr h) fits = narrowed_taken words s target source h fits
 
+condition_taken :
+    (words : ℕ) (s : Scope) (o : Option Y.Bit) → is_condition s o ≡ true → condition_needs o ≤ held_registers →
+    Sets (condition_needs o) (condition_sets o) (set_aside words) (bit_if_takes (set_aside words) o)
+condition_taken words s None h fits = sets_none (set_aside words)
+condition_taken words s (Some x) h fits = test_taken s x (set_aside words) h (omega (arith, fits))
+
 -- start, limit and step are evaluated while three words are set aside, and the variable is assigned while two are
 counting_taken :
-    (words : ℕ) (s : Scope) (spot : Spot) (precision : ℕ) (first last n : Y.Number) (body : Y.Stmts) (line : ℕ) →
+    (words : ℕ) (s : Scope) (spot : Spot) (precision : ℕ) (first last n : Y.Number) (w : Option Y.Bit) (body : Y.Stmts)
+    (line : ℕ) →
     (is_number s first ≡ true) × (number_needs first ≤ held_registers) →
     (is_number s last ≡ true) × (number_needs last ≤ held_registers) →
     (is_number s n ≡ true) × (number_needs n ≤ 1) → number_sets n ≡ 0 →
+    Sets (condition_needs w) (condition_sets w) (set_aside (words + 2)) (bit_if_takes (set_aside (words + 2)) w) →
     Sets (statements_need body) (statements_set body) (set_aside (words + 2)) (stmts_take (set_aside (words + 2)) body)
-    → Sets (max (max 1 (max (number_needs first) (number_needs last))) (statements_need body))
-    (max (3 + max (number_sets first) (number_sets last)) (2 + statements_set body)) (set_aside words)
+    → Sets (max (max 1 (max (number_needs first) (number_needs last))) (max (condition_needs w) (statements_need body)))
+    (max (3 + max (number_sets first) (number_sets last)) (2 + max (condition_sets w) (statements_set body)))
+    (set_aside words)
     (stmt_takes (set_aside words)
-    (Y.DoCount (Y.NumberCounter 31 (whole spot)) (Y.NumberValue precision first) (Some last) n None body line))
-counting_taken words s spot precision first last n body line x y z c2 inner =
+    (Y.DoCount (Y.NumberCounter 31 (whole spot)) (Y.NumberValue precision first) (Some last) n w body line))
+counting_taken words s spot precision first last n w body line x y z c2 tested inner =
     let three = set_aside (words + 3) in
     let xf = x.1 in
     let yf = y.1 in
@@ -575,16 +376,22 @@ counting_taken words s spot precision first last n body line x y z c2 inner =
     let c1 = c.words in
     let d0 = inner.registers in
     let d1 = inner.words in
-    record { registers = omega (arith, a0, b0, d0); words = omega (arith, a1, b1, c1, d1, c2) }
+    let e0 = tested.registers in
+    let e1 = tested.words in
+    let turn = max (condition_sets w) (statements_set body) in
+    let turned : max (bit_if_takes (set_aside (words + 2)) w).words (stmts_take (set_aside (words + 2)) body).words
+    ≡ words + 2 + turn = omega (arith, d1, e1) in
+    record { registers = omega (arith, a0, b0, d0, e0); words = omega (arith, a1, b1, c1, turned, c2) }
 
 count_taken :
     (words : ℕ) (s : Scope) {k : Y.Counter} {v : Y.Value} {o : Option Y.Number} {n : Y.Number} {w : Option Y.Bit}
-    (x : IsCounting s k v o n w) (body : Y.Stmts) (line : ℕ) → count_needs v o ≤ held_registers →
+    (x : IsCounting s k v o n w) (body : Y.Stmts) (line : ℕ) →
+    max (count_needs v o) (condition_needs w) ≤ held_registers →
     Sets (statements_need body) (statements_set body) (set_aside (words + 2)) (stmts_take (set_aside (words + 2)) body)
-    → Sets (max (count_needs v o) (statements_need body)) (max (3 + count_sets v o) (2 + statements_set body))
-    (set_aside words)
+    → Sets (max (count_needs v o) (max (condition_needs w) (statements_need body)))
+    (max (3 + count_sets v o) (2 + max (condition_sets w) (statements_set body))) (set_aside words)
     (stmt_takes (set_aside words) (Y.DoCount k v o n w body line))
-count_taken words s {v = v} {o = o} {n = n} x body line fits inner =
+count_taken words s {v = v} {o = o} {n = n} {w = w} x body line fits inner =
     let first : start_needs v ≡ number_needs x.first = ap start_needs x.start in
     let last : limit_needs o ≡ number_needs x.last = ap limit_needs x.limit in
     let needs : max 1 (max (number_needs x.first) (number_needs x.last)) ≡ count_needs v o =
@@ -592,17 +399,17 @@ count_taken words s {v = v} {o = o} {n = n} x body line fits inner =
     let first' : start_sets v ≡ number_sets x.first = ap start_sets x.start in
     let last' : limit_sets o ≡ number_sets x.last = ap limit_sets x.limit in
     let sets : max (number_sets x.first) (number_sets x.last) ≡ count_sets v o = omega (arith, first', last') in
-    subst (λ stmt. Sets (max (count_needs v o) (statements_need body))
-    (max (3 + count_sets v o) (2 + statements_set body))
-    (set_aside words) (stmt_takes (set_aside words) stmt)) (sym (statement_is x body line))
-    (subst (λ q. Sets (max (count_needs v o) (statements_need body)) (max (3 + q) (2 + statements_set body))
-    (set_aside words) (stmt_takes (set_aside words) (count_of (counting_of x body line)))) sets
-    (subst (λ m. Sets (max m (statements_need body))
-    (max (3 + max (number_sets x.first) (number_sets x.last)) (2 + statements_set body)) (set_aside words)
+    let needed = max (condition_needs w) (statements_need body) in
+    let set = 2 + max (condition_sets w) (statements_set body) in
+    subst (λ stmt. Sets (max (count_needs v o) needed) (max (3 + count_sets v o) set) (set_aside words)
+    (stmt_takes (set_aside words) stmt)) (sym (statement_is x body line))
+    (subst (λ q. Sets (max (count_needs v o) needed) (max (3 + q) set) (set_aside words)
+    (stmt_takes (set_aside words) (count_of (counting_of x body line)))) sets
+    (subst (λ m. Sets (max m needed) (max (3 + max (number_sets x.first) (number_sets x.last)) set) (set_aside words)
     (stmt_takes (set_aside words) (count_of (counting_of x body line)))) needs
-    (counting_taken words s x.spot x.precision x.first x.last n body line
+    (counting_taken words s x.spot x.precision x.first x.last n w body line
     (x.first_known, omega (arith, fits, first)) (x.last_known, omega (arith, fits, last)) (x.step_known, x.step_few)
-    x.step_sets inner)))
+    x.step_sets (condition_taken (words + 2) s w x.tested (omega (arith, fits))) inner)))
 
 put_item_taken :
     (words : ℕ) (s : Scope) (i : Y.PutItem) → is_put_item s i ≡ true → put_item_needs i ≤ held_registers →
@@ -746,7 +553,23 @@ mutual
   statement_taken words s valued labels (Y.AssignAggregate target source line) h fits = absurd (cc h)
   statement_taken words s valued labels (Y.AssignArea target source line) h fits = sets_none (set_aside words)
   statement_taken words s valued labels (Y.EmptyArea target line) h fits = sets_none (set_aside words)
-  statement_taken words s valued labels (Y.DoOnce variable start condition body line) h fits = absurd (cc h)
+  statement_taken words s valued labels (Y.DoOnce variable start condition body line) h fits =
+      let one = is_reference s variable && is_stored s start in
+      let other = is_narrowed s variable start in
+      let inner = are_statements s valued (labels_in body ++ labels) body in
+      let a = and_parts (is_line line) ((one || other) && (is_condition s condition && inner)) h in
+      let b = and_parts (one || other) (is_condition s condition && inner) a.1 in
+      let c = and_parts (is_condition s condition) inner b.1 in
+      sets_either (max (stored_needs start) (behind_stored start (reference_needs variable)))
+      (max (condition_needs condition) (statements_need body)) (max (stored_sets start) (reference_sets variable))
+      (max (condition_sets condition) (statements_set body)) (set_aside words)
+      (assigned_takes (set_aside words) variable start)
+      (most_taken (bit_if_takes (set_aside words) condition) (stmts_take (set_aside words) body))
+      (assignment_taken words s variable start (or_cases one other b.0) (omega (arith, fits)))
+      (sets_either (condition_needs condition) (statements_need body) (condition_sets condition) (statements_set body)
+      (set_aside words) (bit_if_takes (set_aside words) condition) (stmts_take (set_aside words) body)
+      (condition_taken words s condition c.0 (omega (arith, fits)))
+      (statements_taken words s valued (labels_in body ++ labels) body c.1 (omega (arith, fits))))
   statement_taken words s valued labels (Y.DoCount counter start limit step condition body line) h fits =
       let u = without_located s in
       let inner = are_statements u valued (labels_in body ++ labels) body in

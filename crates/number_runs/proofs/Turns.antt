@@ -7,7 +7,8 @@ use Rattle.pli_meaning.specs.Control.{Label}
 use Rattle.pli_coding.specs.Allocating.{act_code}
 use Rattle.pli_coding.specs.Assembly.{JumpBack}
 use Rattle.pli_coding.specs.Expressions.{number_code}
-use Rattle.pli_coding.specs.Statements.{limit_tested, turns_code, words_back, words_behind_limit}
+use Rattle.pli_coding.specs.Statements.{limit_tested, turns_code, while_kept, words_back, words_behind_condition}
+use Rattle.pli_coding.specs.Statements.{words_behind_limit}
 use Rattle.run_steps.proofs.Linking.{size_append}
 use Rattle.storage_relation.proofs.Holders.{eqb-other}
 use Rattle.activation_relation.specs.FrameLaws.{with_waits}
@@ -20,7 +21,7 @@ use Rattle.counter_runs.specs.Counts.{Counting, IsStep, body_index, count_of, tu
 use Rattle.counter_runs.specs.Words.{telling, with_word}
 use Rattle.counter_runs.proofs.Known.{array_told, number_told}
 use Rattle.counter_runs.proofs.Limits.{limit_size}
-use Rattle.counter_runs.proofs.Turns.{coded, starts_code}
+use Rattle.counter_runs.proofs.Turns.{coded, starts_code, while_long}
 use Rattle.counter_runs.proofs.Words.{begun_telling}
 use Rattle.number_runs.specs.Knowledge.{AreStandingWith, HasFrame, IsHome, IsReady, IsFree, KnowsGivenCalls}
 use Rattle.number_runs.specs.Knowledge.{StandingWith, KnowsAroundTexts, KnowsCalls, KnowsRaises, KnowsPuts}
@@ -247,19 +248,23 @@ turn_stands words k c index step at =
     let read' = number_code k.environment (in_registers (words + 2) 0) (Y.NumberIn c.counter) in
     let far = words_behind_limit u in
     let limit' = read' ++ limit_tested (set_aside words) (Some c.by) far in
+    let near = words_behind_condition u in
+    let while' = while_kept k.environment (set_aside words) c.condition near in
     let last = u.stepped ++ JumpBack (words_back u) ∷ [] in
     let n0 = size_append one starts in
     let n1 = size_append read' (limit_tested (set_aside words) (Some c.by) far) in
     let n2 = size_append read' (limit_tested (set_aside words) (Some c.by) 0) in
     let n3 = limit_size words c.by far in
     let n4 = limit_size words c.by 0 in
-    subst (λ i. Placed k.call.surroundings.links k.call.code i u.body) (omega (arith, n0, n1, n2, n3, n4))
+    let n5 = while_long words k c.condition near in
+    subst (λ i. Placed k.call.surroundings.links k.call.code i u.body) (omega (arith, n0, n1, n2, n3, n4, n5))
     (placed_front u.body last
-    (placed_back limit' (u.body ++ last)
-    (placed_back u.begun (limit' ++ (u.body ++ last))
+    (placed_back while' (u.body ++ last)
+    (placed_back limit' (while' ++ (u.body ++ last))
+    (placed_back u.begun (limit' ++ (while' ++ (u.body ++ last)))
     (placed_back starts turns
     (placed_back one (starts ++ turns)
-    (subst (Placed k.call.surroundings.links k.call.code index) (coded words k c step) at))))))
+    (subst (Placed k.call.surroundings.links k.call.code index) (coded words k c step) at)))))))
 
 pub low_unlocated :
     {s : Scope} {valued : Bool} {k : Block} {labels : List Label} {most left' : ℕ}

@@ -1,7 +1,7 @@
 -- Where no loop may count, no call has an argument, and nothing that is BASED is reached, statements set no words of
 -- the frame aside.
 use Rattle.std.proofs.Common.{◌≡◌, ◌⊎◌, inl, inr, ℕ, ◌≤◌, List, [], ◌++◌, true, false, refl, sym, ◌∙◌, arith}
-use Rattle.std.specs.Prelude.{◌&&◌, ◌||◌, ◌==◌, Bool, max, suc}
+use Rattle.std.specs.Prelude.{◌&&◌, ◌||◌, ◌==◌, Bool, max, None, Option, Some, suc}
 use Rattle.std.proofs.lemmas.Bool.{and_parts, or_cases}
 use Rattle.pli_typing.specs.TypedTree as Y
 use Rattle.pli_coding.specs.Expressions.{argument_count}
@@ -11,7 +11,7 @@ use Rattle.pli_meaning.specs.Executing.{labels_in}
 use Rattle.pli_coding.specs.Environments.{Environment, none_taken}
 use Rattle.pli_coding.specs.Registers.{held_registers}
 use Rattle.pli_coding.specs.Statements.{block_takes, block_words, stmt_takes, stmts_take}
-use Rattle.number_runs.specs.Counting.{is_count}
+use Rattle.number_runs.specs.Counting.{condition_sets, is_condition, is_count}
 use Rattle.number_runs.specs.Narrow.{has_precision, is_bit, is_text_type}
 use Rattle.number_runs.specs.Numbers.{Scope, are_arguments, gives_lists, is_fixed, is_number, is_reference, is_test}
 use Rattle.number_runs.specs.Numbers.{is_narrow_with, reference_sets, is_text, without_given, IsBare, without_located}
@@ -19,7 +19,8 @@ use Rattle.number_runs.specs.Statements.{are_statements, is_line, is_statement, 
 use Rattle.number_runs.specs.Statements.{is_allocation, is_freeing}
 use Rattle.number_runs.specs.Statements.{is_narrowed, statement_sets, statements_need, statements_set, stored_sets}
 use Rattle.number_runs.specs.Variables.{are_plain}
-use Rattle.number_runs.proofs.Takes.{Takes, statement_taken, statements_taken}
+use Rattle.number_runs.proofs.Taking.{Takes}
+use Rattle.number_runs.proofs.Takes.{statement_taken, statements_taken}
 use Rattle.number_runs.proofs.BlocksTaken.{block_sets, plain_known}
 use Rattle.number_runs.proofs.Based.{allocation_is, freeing_is}
 use Rattle.number_runs.proofs.Unset.{narrow_unset, number_unset, reference_unset, test_unset}
@@ -66,6 +67,10 @@ assigned_unset s target source none (inl h) =
     omega (arith, m, n)
 assigned_unset s target source none (inr h) = narrowed_unset s target source none h
 
+condition_unset : (s : Scope) (o : Option Y.Bit) → IsBare s → is_condition s o ≡ true → condition_sets o ≡ 0
+condition_unset s None none h = refl
+condition_unset s (Some x) none h = test_unset s x none h
+
 mutual
   statement_uncounted :
       (s : Scope) (valued : Bool) (labels : List Label) (x : Y.Stmt) →
@@ -109,7 +114,17 @@ mutual
   statement_uncounted s valued labels (Y.AssignAggregate target source line) none h = refl
   statement_uncounted s valued labels (Y.AssignArea target source line) none h = refl
   statement_uncounted s valued labels (Y.EmptyArea target line) none h = refl
-  statement_uncounted s valued labels (Y.DoOnce variable start condition body line) none h = refl
+  statement_uncounted s valued labels (Y.DoOnce variable start condition body line) none h =
+      let one = is_reference s variable && is_stored s start in
+      let other = is_narrowed s variable start in
+      let inner = are_statements s valued (labels_in body ++ labels) body in
+      let a = and_parts (is_line line) ((one || other) && (is_condition s condition && inner)) h in
+      let b = and_parts (one || other) (is_condition s condition && inner) a.1 in
+      let c = and_parts (is_condition s condition) inner b.1 in
+      let l = assigned_unset s variable start none.1 (or_cases one other b.0) in
+      let m = condition_unset s condition none.1 c.0 in
+      let n = statements_uncounted s valued (labels_in body ++ labels) body none c.1 in
+      omega (arith, l, m, n)
   statement_uncounted s valued labels (Y.Begin block) none h = refl
   statement_uncounted s valued labels (Y.OnSystem condition line) none h = refl
   statement_uncounted s valued labels (Y.OnUnit condition unit line) none h = refl

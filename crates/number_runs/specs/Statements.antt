@@ -5,7 +5,7 @@ use Rattle.pli_typing.specs.TypedTree as Y
 use Rattle.pli_coding.specs.Expressions.{argument_count}
 use Rattle.pli_meaning.specs.Control.{Label, is_among}
 use Rattle.pli_meaning.specs.Executing.{labels_in}
-use Rattle.number_runs.specs.Counting.{count_needs, count_sets, is_count}
+use Rattle.number_runs.specs.Counting.{condition_needs, condition_sets, count_needs, count_sets, is_condition, is_count}
 use Rattle.number_runs.specs.Numbers.{Scope, call_needs, call_sets, are_arguments, gives_lists, is_fixed, is_number}
 use Rattle.number_runs.specs.Numbers.{is_reference, is_narrow_with, is_test, number_needs, number_sets}
 use Rattle.number_runs.specs.Numbers.{reference_needs, reference_sets, test_needs, test_sets, is_text, text_needs}
@@ -88,6 +88,10 @@ abbrev mutual
       is_line line && are_statements s valued (labels_in body ++ labels) body
   is_statement s valued labels (Y.DoWhile condition body line) =
       is_line line && (is_test s condition && are_statements s valued (labels_in body ++ labels) body)
+  is_statement s valued labels (Y.DoOnce variable start condition body line) =
+      is_line line
+      && (((is_reference s variable && is_stored s start) || is_narrowed s variable start)
+      && (is_condition s condition && are_statements s valued (labels_in body ++ labels) body))
   is_statement s valued labels (Y.DoCount counter start limit step condition body line) =
       is_line line
       && (s.counts
@@ -131,8 +135,11 @@ abbrev mutual
       max (test_needs condition) (max (statement_needs unit) (statement_needs otherwise))
   statement_needs (Y.Do body line) = statements_need body
   statement_needs (Y.DoWhile condition body line) = max (test_needs condition) (statements_need body)
+  statement_needs (Y.DoOnce variable start condition body line) =
+      max (max (stored_needs start) (behind_stored start (reference_needs variable)))
+      (max (condition_needs condition) (statements_need body))
   statement_needs (Y.DoCount counter start limit step condition body line) =
-      max (count_needs start limit) (statements_need body)
+      max (count_needs start limit) (max (condition_needs condition) (statements_need body))
   statement_needs (Y.CallProcedure call line) = call_needs call
   statement_needs (Y.ReturnValue type source line) = stored_needs source
   statement_needs (Y.Put skip pairs line) = put_needs pairs
@@ -152,8 +159,10 @@ abbrev mutual
       max (test_sets condition) (max (statement_sets unit) (statement_sets otherwise))
   statement_sets (Y.Do body line) = statements_set body
   statement_sets (Y.DoWhile condition body line) = max (test_sets condition) (statements_set body)
+  statement_sets (Y.DoOnce variable start condition body line) =
+      max (max (stored_sets start) (reference_sets variable)) (max (condition_sets condition) (statements_set body))
   statement_sets (Y.DoCount counter start limit step condition body line) =
-      max (3 + count_sets start limit) (2 + statements_set body)
+      max (3 + count_sets start limit) (2 + max (condition_sets condition) (statements_set body))
   statement_sets (Y.CallProcedure call line) = call_sets call
   statement_sets (Y.ReturnValue type source line) = stored_sets source
   statement_sets (Y.Allocate all line) = allocation_sets
