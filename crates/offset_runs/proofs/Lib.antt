@@ -9,3 +9,9 @@ pub mod MemberOffsets
 pub mod MemberAssignments
 pub mod PointerCode
 pub mod PointerAssignments
+pub mod AddressCode
+pub mod AddressMeaning
+pub mod WaitingNames
+pub mod AddressAnswers
+pub mod AddressRuns
+pub mod Addresses

@@ -1,5 +1,6 @@
 // Laws of the definitions: each function's contract is one law, and calling it does nothing.
 
+ghost use Rattle.offset_runs.specs.OffsetAddresses.{AddressGiven};
 ghost use Rattle.offset_runs.specs.OffsetAssignments.{OffsetAssigned, OffsetKept};
 ghost use Rattle.offset_runs.specs.OffsetPointers.{PointerFromOffset};
 ghost use Rattle.offset_runs.specs.Offsets.{OffsetsCompared, OffsetsGiven};
@@ -27,4 +28,10 @@ pub fn offset_kept()
 /// A POINTER variable that is assigned a pointer into an area holds that, at each point of the block.
 pub fn pointer_from_offset()
     ensures { PointerFromOffset }
+{}
+
+/// The offset in an area of what a pointer variable points to is left in a register; where that doesn't live in the area,
+/// ERROR ends the run.
+pub fn address_given()
+    ensures { AddressGiven }
 {}
