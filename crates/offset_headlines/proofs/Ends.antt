@@ -23,7 +23,7 @@ values = tt
 
 unfoldable placings : Unit {0}
 unfolding P.allocations P.allocation P.based_allocated P.area_or_heap P.placing P.locator_set P.area_assigned
-    P.area_copied
+    P.area_copied P.freeings P.freeing P.based_freed P.area_if P.name_freed
 placings = tt
 
 unfoldable makings : Unit {0}
@@ -40,9 +40,9 @@ statements = tt
 
 pub twin_ends :
     (input : List ℕ) →
-    M.meaning twin_program input 47
+    M.meaning twin_program input 49
     ≡ Some (record {
-      acts = 47;
+      acts = 49;
       output = 32 ∷ 32 ∷ 54 ∷ 32 ∷ 32 ∷ 52 ∷ 32 ∷ 32 ∷ 50 ∷ 32 ∷ 32 ∷ 48 ∷ 10 ∷ [];
       raised = [];
       end = E.Finished;

@@ -35,7 +35,7 @@ use Rattle.block_headlines.proofs.VariableRuns.{fits}
 use Rattle.offset_runs.specs.Offsets.{IsOffsetVariable, offset_declared}
 use Rattle.offset_headlines.specs.Rows.{area_declared, area_made, area_spot, first_made, first_spot, next_member, node_leaves, node_members}
 use Rattle.offset_headlines.specs.Rows.{node_spot, number_made, number_spot, of_area, offset_made, offset_spot, pointer_made}
-use Rattle.offset_headlines.specs.Rows.{pointer_spot, twin_entry, twin_environment, twin_made, twin_main, twin_program}
+use Rattle.offset_headlines.specs.Rows.{pointer_spot, spare_made, spare_spot, twin_entry, twin_environment, twin_made, twin_main, twin_program}
 use Rattle.offset_headlines.specs.Rows.{twin_spot, value_member}
 use Rattle.offset_headlines.proofs.Placed.{twin_code, twin_finish}
 
@@ -45,13 +45,13 @@ pub twin_fits : FitsMemory (picture_of parts twin_program)
 twin_fits = fits twin_program (omega arith) (omega arith)
 
 abbrev pub run_of : (input : List ℕ) → (acts : ℕ) → Run
-run_of input acts = record { units = []; input = input; acts = acts; serials = 6 }
+run_of input acts = record { units = []; input = input; acts = acts; serials = 7 }
 
 abbrev pub twin_image : (input : List ℕ) → (acts : ℕ) → Image
 twin_image input acts = image_for twin_program (run_of input acts)
 
 abbrev pub twin_variables : List Declared
-twin_variables = area_made ∷ pointer_made ∷ twin_made ∷ offset_made ∷ first_made ∷ number_made ∷ []
+twin_variables = area_made ∷ pointer_made ∷ twin_made ∷ offset_made ∷ first_made ∷ number_made ∷ spare_made ∷ []
 
 abbrev pub twin_whole : (input : List ℕ) → (acts : ℕ) → Whole
 twin_whole input acts =
@@ -68,23 +68,42 @@ twin_whole input acts =
 
 pub all_differ : AllDiffer (map template_of (table_of twin_program))
 all_differ =
-    table_differs (table_of twin_program) (table_once twin_program)
-    (record {
- headed = refl;
- leaved = (record { sized = refl; few = omega arith; bounded = tt; placed = refl }, tt);
- }, (tt, tt), (record {
- headed = refl;
- leaved = (record { sized = refl; few = omega arith; bounded = tt; placed = refl }, tt);
- }, (tt, tt), (record {
- headed = refl;
- leaved = (record { sized = refl; few = omega arith; bounded = tt; placed = refl }, (record { sized = refl; few = omega arith; bounded = tt; placed = refl }, tt));
- }, (tt, (tt, tt)), (record {
- headed = refl;
- leaved = (record { sized = refl; few = omega arith; bounded = tt; placed = refl }, tt);
- }, (tt, tt), (record {
- headed = refl;
- leaved = (record { sized = refl; few = omega arith; bounded = tt; placed = refl }, tt);
- }, (tt, tt), tt)))))
+    table_differs (table_of twin_program) (table_once twin_program) (
+      record {
+        headed = refl;
+        leaved = (record { sized = refl; few = omega arith; bounded = tt; placed = refl }, tt);
+      },
+      (tt, tt),
+      (
+        record {
+          headed = refl;
+          leaved = (record { sized = refl; few = omega arith; bounded = tt; placed = refl }, tt);
+        },
+        (tt, tt),
+        (
+          record {
+            headed = refl;
+            leaved = (record { sized = refl; few = omega arith; bounded = tt; placed = refl }, (record { sized = refl; few = omega arith; bounded = tt; placed = refl }, tt));
+          },
+          (tt, (tt, tt)),
+          (
+            record {
+              headed = refl;
+              leaved = (record { sized = refl; few = omega arith; bounded = tt; placed = refl }, tt);
+            },
+            (tt, tt),
+            (
+              record {
+                headed = refl;
+                leaved = (record { sized = refl; few = omega arith; bounded = tt; placed = refl }, tt);
+              },
+              (tt, tt),
+              tt,
+            ),
+          ),
+        ),
+      ),
+    )
 
 -- ---- its variables
 
@@ -105,13 +124,14 @@ twin_all input acts =
     let n = linked_length (links_of twin_code) 0 twin_code in
     record {
       kind = refl;
-      those = inl (refl, refl, inl (refl, refl, inr (refl, inl (refl, refl, inl (refl, refl, inl (refl, refl, inl (refl, refl, tt)))))));
-      listed = (record { class = refl; evaluations = refl; late = omega arith; table = refl }, (record { class = refl; evaluations = refl; late = omega arith; table = refl }, (record { class = refl; evaluations = refl; late = omega arith; table = refl }, (record { class = refl; evaluations = refl; late = omega arith; table = refl }, (record { class = refl; evaluations = refl; late = omega arith; table = refl }, (record { class = refl; evaluations = refl; late = omega arith; table = refl }, tt))))));
+      those = inl (refl, refl, inl (refl, refl, inr (refl, inl (refl, refl, inl (refl, refl, inl (refl, refl, inl (refl, refl, inl (refl, refl, tt))))))));
+      listed = (record { class = refl; evaluations = refl; late = omega arith; table = refl }, (record { class = refl; evaluations = refl; late = omega arith; table = refl }, (record { class = refl; evaluations = refl; late = omega arith; table = refl }, (record { class = refl; evaluations = refl; late = omega arith; table = refl }, (record { class = refl; evaluations = refl; late = omega arith; table = refl }, (record { class = refl; evaluations = refl; late = omega arith; table = refl }, (record { class = refl; evaluations = refl; late = omega arith; table = refl }, tt)))))));
       code = refl;
       made = refl;
       parts = refl;
       few = omega arith;
-      declared = (inr (record {
+      declared = (
+        inr (record {
           newest = refl;
           here = refl;
           capacity = 256;
@@ -130,7 +150,9 @@ twin_all input acts =
           bounded = omega arith;
           serial = omega arith;
           limit = refl;
-        }), (inl (record {
+        }),
+        (
+          inl (record {
             newest = refl;
             here = refl;
             holds = omega arith;
@@ -147,77 +169,112 @@ twin_all input acts =
             values = (tt, tt);
             valued = pointer_valued;
             limit = refl;
-          }), (inr (record {
-          newest = refl;
-          here = refl;
-          capacity = 256;
-          holds = omega arith;
-          size = omega arith;
-          fits = omega arith;
-          even = refl;
-          low = omega (arith, n);
-          shape = refl;
-          number = omega arith;
-          initial = refl;
-          none = refl;
-          area = refl;
-          fixed = refl;
-          rounded = refl;
-          bounded = omega arith;
-          serial = omega arith;
-          limit = refl;
-        }), (inl (record {
-            newest = refl;
-            here = refl;
-            holds = omega arith;
-            size = omega arith;
-            fits = omega arith;
-            even = refl;
-            low = omega (arith, n);
-            shape = refl;
-            number = omega arith;
-            initial = refl;
-            none = refl;
-            plain = refl;
-            fixed = refl;
-            values = (tt, tt);
-            valued = offset_valued;
-            limit = refl;
-          }), (inl (record {
-            newest = refl;
-            here = refl;
-            holds = omega arith;
-            size = omega arith;
-            fits = omega arith;
-            even = refl;
-            low = omega (arith, n);
-            shape = refl;
-            number = omega arith;
-            initial = refl;
-            none = refl;
-            plain = refl;
-            fixed = refl;
-            values = (tt, tt);
-            valued = offset_valued;
-            limit = refl;
-          }), (inl (record {
-            newest = refl;
-            here = refl;
-            holds = omega arith;
-            size = omega arith;
-            fits = omega arith;
-            even = refl;
-            low = omega (arith, n);
-            shape = refl;
-            number = omega arith;
-            initial = refl;
-            none = refl;
-            plain = refl;
-            fixed = refl;
-            values = (tt, tt);
-            valued = number_valued;
-            limit = refl;
-          }), tt))))));
+          }),
+          (
+            inr (record {
+              newest = refl;
+              here = refl;
+              capacity = 256;
+              holds = omega arith;
+              size = omega arith;
+              fits = omega arith;
+              even = refl;
+              low = omega (arith, n);
+              shape = refl;
+              number = omega arith;
+              initial = refl;
+              none = refl;
+              area = refl;
+              fixed = refl;
+              rounded = refl;
+              bounded = omega arith;
+              serial = omega arith;
+              limit = refl;
+            }),
+            (
+              inl (record {
+                newest = refl;
+                here = refl;
+                holds = omega arith;
+                size = omega arith;
+                fits = omega arith;
+                even = refl;
+                low = omega (arith, n);
+                shape = refl;
+                number = omega arith;
+                initial = refl;
+                none = refl;
+                plain = refl;
+                fixed = refl;
+                values = (tt, tt);
+                valued = offset_valued;
+                limit = refl;
+              }),
+              (
+                inl (record {
+                  newest = refl;
+                  here = refl;
+                  holds = omega arith;
+                  size = omega arith;
+                  fits = omega arith;
+                  even = refl;
+                  low = omega (arith, n);
+                  shape = refl;
+                  number = omega arith;
+                  initial = refl;
+                  none = refl;
+                  plain = refl;
+                  fixed = refl;
+                  values = (tt, tt);
+                  valued = offset_valued;
+                  limit = refl;
+                }),
+                (
+                  inl (record {
+                    newest = refl;
+                    here = refl;
+                    holds = omega arith;
+                    size = omega arith;
+                    fits = omega arith;
+                    even = refl;
+                    low = omega (arith, n);
+                    shape = refl;
+                    number = omega arith;
+                    initial = refl;
+                    none = refl;
+                    plain = refl;
+                    fixed = refl;
+                    values = (tt, tt);
+                    valued = number_valued;
+                    limit = refl;
+                  }),
+                  (
+                    inl (record {
+                      newest = refl;
+                      here = refl;
+                      holds = omega arith;
+                      size = omega arith;
+                      fits = omega arith;
+                      even = refl;
+                      low = omega (arith, n);
+                      shape = refl;
+                      number = omega arith;
+                      initial = refl;
+                      none = refl;
+                      plain = refl;
+                      fixed = refl;
+                      values = (tt, tt);
+                      valued = pointer_valued;
+                      limit = refl;
+                    }),
+                    tt,
+                  ),
+                ),
+              ),
+            ),
+          ),
+        ),
+      );
     }
 
 abbrev pub twin_block : (input : List ℕ) → (acts : ℕ) → Block
@@ -260,6 +317,19 @@ number_known input acts b =
     (start_point (twin_image input acts)) no_numbers twin_variables number_made number_spot
     (record { high = omega arith; inside = omega arith }) (twin_all input acts) (inr (inr (inr (inr (inr (inl refl))))))
     (record { declared = refl; index = refl; level = refl; own = refl; place = refl }) b
+
+pub spare_known :
+    (input : List ℕ) (acts : ℕ) → IsBegun (twin_block input acts) →
+    IsKnown (twin_block input acts) spare_spot pointer_declared
+spare_known input acts b =
+    known_own (surroundings_of (twin_image input acts)) (linked_code twin_code) (main_of (twin_whole input acts))
+    (start_point (twin_image input acts)) no_numbers twin_variables spare_made spare_spot
+    (record { high = omega arith; inside = omega arith }) (twin_all input acts) (inr (inr (inr (inr (inr (inr (inl refl)))))))
+    (record { declared = refl; index = refl; level = refl; own = refl; place = refl }) b
+
+pub spare_is :
+    (input : List ℕ) (acts : ℕ) → IsBegun (twin_block input acts) → IsPointer (twin_block input acts) spare_spot
+spare_is input acts b = record { begun = b; known = spare_known input acts b; own = refl }
 
 pub number_is :
     (input : List ℕ) (acts : ℕ) → IsBegun (twin_block input acts) → IsNumber (twin_block input acts) number_spot
@@ -348,6 +418,23 @@ pub is_structure :
 is_structure input acts b =
     record {
       pointer = pointer_is input acts b;
+      declared = refl;
+      meant = refl;
+      plain = refl;
+      signature = 2;
+      table = refl;
+      number = omega arith;
+      numbered = refl;
+      low = omega arith;
+    }
+
+-- by way of the other pointer
+pub is_spare :
+    (input : List ℕ) (acts : ℕ) → IsBegun (twin_block input acts) →
+    IsStructure (twin_block input acts) spare_spot node_spot node_members node_leaves
+is_spare input acts b =
+    record {
+      pointer = spare_is input acts b;
       declared = refl;
       meant = refl;
       plain = refl;

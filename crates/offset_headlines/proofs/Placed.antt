@@ -18,10 +18,10 @@ use Rattle.program_places.proofs.Marks.{named_has}
 use Rattle.program_runs.specs.Procedures.{begin_of, end_of, procedure_code}
 use Rattle.program_runs.specs.Starts.{start_of}
 use Rattle.test_runs.proofs.Chosen.{past}
-use Rattle.offset_headlines.specs.Rows.{made_2, made_3, made_4, made_5, made_turns, seen_2, seen_3, seen_turns, twin_2, twin_3}
-use Rattle.offset_headlines.specs.Rows.{twin_4, twin_5, twin_6, twin_7, twin_8, twin_9, twin_allocate, twin_back, twin_change}
+use Rattle.offset_headlines.specs.Rows.{made_2, made_3, made_4, made_5, made_turns, seen_2, seen_3, seen_turns, twin_10, twin_11, twin_2, twin_3}
+use Rattle.offset_headlines.specs.Rows.{twin_4, twin_5, twin_6, twin_7, twin_8, twin_9, twin_allocate, twin_back, twin_before, twin_change}
 use Rattle.offset_headlines.specs.Rows.{twin_copy, twin_count, twin_entry, twin_environment, twin_few, twin_first}
-use Rattle.offset_headlines.specs.Rows.{twin_follow, twin_head, twin_last, twin_link, twin_main, twin_make, twin_next}
+use Rattle.offset_headlines.specs.Rows.{twin_follow, twin_free, twin_head, twin_last, twin_link, twin_main, twin_make, twin_next}
 use Rattle.offset_headlines.specs.Rows.{twin_null, twin_program, twin_see, twin_some, twin_value, twin_write, twin_zero}
 
 abbrev pub twin_code : Code
@@ -86,14 +86,20 @@ body_linked =
 abbrev pub zero_index : ℕ
 zero_index = twin_start + size_of (coded twin_null)
 
+abbrev pub before_index : ℕ
+before_index = zero_index + size_of (coded twin_zero)
+
 abbrev pub make_index : ℕ
-make_index = zero_index + size_of (coded twin_zero)
+make_index = before_index + size_of (coded twin_before)
 
 abbrev pub first_index : ℕ
 first_index = make_index + size_of (coded twin_make)
 
+abbrev pub free_index : ℕ
+free_index = first_index + size_of (coded twin_first)
+
 abbrev pub copy_index : ℕ
-copy_index = first_index + size_of (coded twin_first)
+copy_index = free_index + size_of (coded twin_free)
 
 abbrev pub change_index : ℕ
 change_index = copy_index + size_of (coded twin_copy)
@@ -116,47 +122,59 @@ linked_2 = back_of (coded twin_null) (listed twin_2) body_linked
 pub zero_linked : StandsAt zero_index (coded twin_zero)
 zero_linked = front_of (coded twin_zero) (listed twin_3) linked_2
 
-linked_3 : StandsAt make_index (listed twin_3)
+linked_3 : StandsAt before_index (listed twin_3)
 linked_3 = back_of (coded twin_zero) (listed twin_3) linked_2
 
-pub make_linked : StandsAt make_index (coded twin_make)
-make_linked = front_of (coded twin_make) (listed twin_4) linked_3
+pub before_linked : StandsAt before_index (coded twin_before)
+before_linked = front_of (coded twin_before) (listed twin_4) linked_3
 
-linked_4 : StandsAt first_index (listed twin_4)
-linked_4 = back_of (coded twin_make) (listed twin_4) linked_3
+linked_4 : StandsAt make_index (listed twin_4)
+linked_4 = back_of (coded twin_before) (listed twin_4) linked_3
+
+pub make_linked : StandsAt make_index (coded twin_make)
+make_linked = front_of (coded twin_make) (listed twin_5) linked_4
+
+linked_5 : StandsAt first_index (listed twin_5)
+linked_5 = back_of (coded twin_make) (listed twin_5) linked_4
 
 pub first_linked : StandsAt first_index (coded twin_first)
-first_linked = front_of (coded twin_first) (listed twin_5) linked_4
+first_linked = front_of (coded twin_first) (listed twin_6) linked_5
 
-linked_5 : StandsAt copy_index (listed twin_5)
-linked_5 = back_of (coded twin_first) (listed twin_5) linked_4
+linked_6 : StandsAt free_index (listed twin_6)
+linked_6 = back_of (coded twin_first) (listed twin_6) linked_5
+
+pub free_linked : StandsAt free_index (coded twin_free)
+free_linked = front_of (coded twin_free) (listed twin_7) linked_6
+
+linked_7 : StandsAt copy_index (listed twin_7)
+linked_7 = back_of (coded twin_free) (listed twin_7) linked_6
 
 pub copy_linked : StandsAt copy_index (coded twin_copy)
-copy_linked = front_of (coded twin_copy) (listed twin_6) linked_5
+copy_linked = front_of (coded twin_copy) (listed twin_8) linked_7
 
-linked_6 : StandsAt change_index (listed twin_6)
-linked_6 = back_of (coded twin_copy) (listed twin_6) linked_5
+linked_8 : StandsAt change_index (listed twin_8)
+linked_8 = back_of (coded twin_copy) (listed twin_8) linked_7
 
 pub change_linked : StandsAt change_index (coded twin_change)
-change_linked = front_of (coded twin_change) (listed twin_7) linked_6
+change_linked = front_of (coded twin_change) (listed twin_9) linked_8
 
-linked_7 : StandsAt see_index (listed twin_7)
-linked_7 = back_of (coded twin_change) (listed twin_7) linked_6
+linked_9 : StandsAt see_index (listed twin_9)
+linked_9 = back_of (coded twin_change) (listed twin_9) linked_8
 
 pub see_linked : StandsAt see_index (coded twin_see)
-see_linked = front_of (coded twin_see) (listed twin_8) linked_7
+see_linked = front_of (coded twin_see) (listed twin_10) linked_9
 
-linked_8 : StandsAt back_index (listed twin_8)
-linked_8 = back_of (coded twin_see) (listed twin_8) linked_7
+linked_10 : StandsAt back_index (listed twin_10)
+linked_10 = back_of (coded twin_see) (listed twin_10) linked_9
 
 pub back_linked : StandsAt back_index (coded twin_back)
-back_linked = front_of (coded twin_back) (listed twin_9) linked_8
+back_linked = front_of (coded twin_back) (listed twin_11) linked_10
 
-linked_9 : StandsAt last_index (listed twin_9)
-linked_9 = back_of (coded twin_back) (listed twin_9) linked_8
+linked_11 : StandsAt last_index (listed twin_11)
+linked_11 = back_of (coded twin_back) (listed twin_11) linked_10
 
 pub last_linked : StandsAt last_index (coded twin_last)
-last_linked = front_of (coded twin_last) [] linked_9
+last_linked = front_of (coded twin_last) [] linked_11
 
 -- what is repeated stands behind the test
 abbrev pub turn_test : (line : ℕ) → Y.Bit → Code
@@ -179,7 +197,7 @@ turns_linked index line x body l =
 -- ---- the first loop
 
 abbrev pub count_index : ℕ
-count_index = turn_index make_index 5 twin_few
+count_index = turn_index make_index 6 twin_few
 
 abbrev pub allocate_index : ℕ
 allocate_index = count_index + size_of (coded twin_count)
@@ -194,7 +212,7 @@ abbrev pub head_index : ℕ
 head_index = link_index + size_of (coded twin_link)
 
 made_linked : StandsAt count_index (listed made_turns)
-made_linked = turns_linked make_index 5 twin_few made_turns make_linked
+made_linked = turns_linked make_index 6 twin_few made_turns make_linked
 
 pub count_linked : StandsAt count_index (coded twin_count)
 count_linked = front_of (coded twin_count) (listed made_2) made_linked
@@ -226,7 +244,7 @@ head_linked = front_of (coded twin_head) [] made_linked_5
 -- ---- the second one
 
 abbrev pub follow_index : ℕ
-follow_index = turn_index see_index 15 twin_some
+follow_index = turn_index see_index 17 twin_some
 
 abbrev pub write_index : ℕ
 write_index = follow_index + size_of (coded twin_follow)
@@ -235,7 +253,7 @@ abbrev pub next_index : ℕ
 next_index = write_index + size_of (coded twin_write)
 
 seen_linked : StandsAt follow_index (listed seen_turns)
-seen_linked = turns_linked see_index 15 twin_some seen_turns see_linked
+seen_linked = turns_linked see_index 17 twin_some seen_turns see_linked
 
 pub follow_linked : StandsAt follow_index (coded twin_follow)
 follow_linked = front_of (coded twin_follow) (listed seen_2) seen_linked

@@ -35,7 +35,7 @@ use Rattle.test_runs.proofs.Bits.{numbers_tests}
 use Rattle.test_runs.proofs.Loops.{loop_does}
 use Rattle.text_runs.specs.Texts.{IsErrorless}
 use Rattle.text_runs.proofs.Errors.{error_ends}
-use Rattle.area_runs.specs.Allocations.{HasArea}
+use Rattle.area_runs.specs.Allocations.{HasArea, allocation}
 use Rattle.area_runs.specs.Based.{Ends}
 use Rattle.edit_runs.specs.Edits.{IsPut, KnowsFormats, placing, put_of, within}
 use Rattle.edit_runs.proofs.DataPuts.{put_does}
@@ -43,6 +43,7 @@ use Rattle.edit_runs.proofs.Places.{begun_placed, errorless_placed}
 use Rattle.edit_headlines.proofs.Formats.{list_placed}
 use Rattle.area_assignments.specs.Copying.{IsCopying}
 use Rattle.area_assignments.proofs.Copying.{copy_does}
+use Rattle.member_freeings.proofs.Freeing.{free_does}
 use Rattle.member_runs.specs.Allocations as W
 use Rattle.member_runs.specs.MemberAssignments as B
 use Rattle.member_runs.specs.Members.{IsStructure, member_of}
@@ -64,17 +65,19 @@ use Rattle.scalar_runs.specs.Assignments.{IsPlacedWith}
 use Rattle.block_headlines.specs.Headlines.{Layout, Runs}
 use Rattle.block_headlines.proofs.Constants.{constants_stand, main_of_program}
 use Rattle.offset_headlines.specs.Rows.{area_spot, first_spot, made_turns, next_member, node_leaves, node_members, node_spot}
-use Rattle.offset_headlines.specs.Rows.{number_spot, of_area, offset_spot, pointer_spot, seen_turns, twin_body, twin_entry}
+use Rattle.offset_headlines.specs.Rows.{number_spot, of_area, offset_spot, pointer_spot, seen_turns, spare_spot, twin_body, twin_entry}
 use Rattle.offset_headlines.specs.Rows.{twin_environment, twin_few, twin_formats, twin_main, twin_make, twin_program}
 use Rattle.offset_headlines.specs.Rows.{twin_put, twin_see, twin_some, twin_spot, twin_sum, twin_twice, value_member}
-use Rattle.offset_headlines.proofs.Placed.{StandsAt, allocate_index, allocate_linked, back_index, back_linked, change_index}
+use Rattle.offset_headlines.proofs.Placed.{StandsAt, allocate_index, allocate_linked, back_index, back_linked, before_index}
+use Rattle.offset_headlines.proofs.Placed.{before_linked, change_index, free_index, free_linked}
 use Rattle.offset_headlines.proofs.Placed.{change_linked, coded, copy_index, copy_linked, count_index, count_linked}
 use Rattle.offset_headlines.proofs.Placed.{first_index, first_linked, follow_index, follow_linked, head_index, head_linked}
 use Rattle.offset_headlines.proofs.Placed.{last_index, last_linked, link_index, link_linked, main_linked, make_index}
 use Rattle.offset_headlines.proofs.Placed.{make_linked, next_index, next_linked, null_linked, raise_linked, see_index}
 use Rattle.offset_headlines.proofs.Placed.{see_linked, start_linked, twin_code, twin_finish, twin_start, value_index}
 use Rattle.offset_headlines.proofs.Placed.{value_linked, write_index, write_linked, zero_index, zero_linked}
-use Rattle.offset_headlines.proofs.Known.{all_differ, first_is, has_area, has_twin, is_structure, next_is, number_is}
+use Rattle.offset_headlines.proofs.Known.{all_differ, first_is, has_area, has_twin, is_spare, is_structure, next_is}
+use Rattle.offset_headlines.proofs.Known.{number_is}
 use Rattle.offset_headlines.proofs.Known.{offset_is, pointer_is, run_of, twin_all, twin_block, twin_fits, twin_image}
 use Rattle.offset_headlines.proofs.Known.{twin_variables, twin_whole, value_is}
 
@@ -151,33 +154,34 @@ number_assigned input acts line index need source few b low one l paid =
 
 count_does :
     (input : List ℕ) (acts : ℕ) → acts + 1 < 2 ^ 64 → IsBegun (twin_block input acts) →
-    Does (twin_block input acts) [] (N.assignment number_spot twin_sum 6) count_index left_over
+    Does (twin_block input acts) [] (N.assignment number_spot twin_sum 7) count_index left_over
 count_does input acts few b =
     let n = linked_length (links_of twin_code) 0 twin_code in
-    let k = setting input acts 6 in
-    number_does (twin_block input acts) [] number_spot twin_sum 6 count_index left_over 1 100
-    (number_assigned input acts 6 count_index 1 twin_sum few b (omega arith) (omega arith) count_linked
+    let k = setting input acts 7 in
+    number_does (twin_block input acts) [] number_spot twin_sum 7 count_index left_over 1 100
+    (number_assigned input acts 7 count_index 1 twin_sum few b (omega arith) (omega arith) count_linked
     (omega (arith, n)))
-    (sum_does k (Y.NumberIn (whole number_spot)) (Y.NumberConstant 1) 0 0 (overflows input acts 6 few)
+    (sum_does k (Y.NumberIn (whole number_spot)) (Y.NumberConstant 1) 0 0 (overflows input acts 7 few)
     (variable_does k number_spot b (number_is input acts b)) (constant_does k 1 (omega arith)))
 
 allocation_is :
-    (input : List ℕ) (acts : ℕ) → acts + 1 < 2 ^ 64 → IsBegun (twin_block input acts) →
-    W.IsAllocation (twin_block input acts) [] node_spot pointer_spot area_spot node_members node_leaves 7
-    allocate_index 100
-allocation_is input acts few b =
+    (input : List ℕ) (acts line index : ℕ) (x : _) → acts + 1 < 2 ^ 64 →
+    IsStructure (twin_block input acts) x node_spot node_members node_leaves → line < 2 ^ 31 →
+    StandsAt index (coded (allocation node_spot x area_spot line)) →
+    W.IsAllocation (twin_block input acts) [] node_spot x area_spot node_members node_leaves line index 100
+allocation_is input acts line index x few is low l =
     record {
-      act = record { line_fits = omega arith; acts = few };
-      structure = is_structure input acts b;
+      act = record { line_fits = low; acts = few };
+      structure = is;
       new = record { none = refl; sound = (omega arith, (tt, tt)) };
       area = has_area input acts;
-      ends = ends input acts 7 few;
+      ends = ends input acts line few;
       full = tt;
       words = omega arith;
       waits = λ i. refl;
       turns = acts;
       some = refl;
-      statement = allocate_linked;
+      statement = l;
     }
 
 -- a number, to what the pointer points to
@@ -204,17 +208,17 @@ value_assigned input acts line index need source few b low one l paid =
 
 value_does :
     (input : List ℕ) (acts : ℕ) → acts + 1 < 2 ^ 64 → IsBegun (twin_block input acts) →
-    Does (twin_block input acts) [] (B.assignment pointer_spot node_spot value_member twin_twice 8) value_index
+    Does (twin_block input acts) [] (B.assignment pointer_spot node_spot value_member twin_twice 9) value_index
     left_over
 value_does input acts few b =
     let n = linked_length (links_of twin_code) 0 twin_code in
-    let k = setting input acts 8 in
+    let k = setting input acts 9 in
     let operand = variable_does k number_spot b (number_is input acts b) in
-    assign_does (twin_block input acts) [] pointer_spot node_spot node_members node_leaves value_member twin_twice 8
+    assign_does (twin_block input acts) [] pointer_spot node_spot node_members node_leaves value_member twin_twice 9
     value_index left_over 1 100
-    (value_assigned input acts 8 value_index 1 twin_twice few b (omega arith) (omega arith) value_linked
+    (value_assigned input acts 9 value_index 1 twin_twice few b (omega arith) (omega arith) value_linked
     (omega (arith, n)))
-    (sum_does k (Y.NumberIn (whole number_spot)) (Y.NumberIn (whole number_spot)) 0 0 (overflows input acts 8 few)
+    (sum_does k (Y.NumberIn (whole number_spot)) (Y.NumberIn (whole number_spot)) 0 0 (overflows input acts 9 few)
     operand operand)
 
 -- ---- offsets
@@ -241,33 +245,33 @@ offset_placed input acts line index x source few b low l paid =
 
 link_does :
     (input : List ℕ) (acts : ℕ) → acts + 1 < 2 ^ 64 → IsBegun (twin_block input acts) →
-    Does (twin_block input acts) [] (O.keeping pointer_spot node_spot next_member (Y.OffsetIn (whole offset_spot)) 9)
+    Does (twin_block input acts) [] (O.keeping pointer_spot node_spot next_member (Y.OffsetIn (whole offset_spot)) 10)
     link_index left_over
 link_does input acts few b =
     let n = linked_length (links_of twin_code) 0 twin_code in
     keep_does (twin_block input acts) [] pointer_spot node_spot node_members node_leaves next_member of_area
-    (Y.OffsetIn (whole offset_spot)) 9 link_index left_over 0 100
+    (Y.OffsetIn (whole offset_spot)) 10 link_index left_over 0 100
     (record {
       act = record { line_fits = omega arith; acts = few };
       structure = is_structure input acts b;
       own = next_is;
-      ends = ends input acts 9 few;
+      ends = ends input acts 10 few;
       registers = omega arith;
       some = omega arith;
       held = omega arith;
       statement = link_linked;
       paid = omega (arith, n);
     })
-    (offset_gives input acts 9 b)
+    (offset_gives input acts 10 b)
 
 addressed :
     (input : List ℕ) (acts : ℕ) → acts + 1 < 2 ^ 64 → IsBegun (twin_block input acts) →
-    IsAddressed (setting input acts 10) pointer_spot node_spot node_members node_leaves area_spot
+    IsAddressed (setting input acts 11) pointer_spot node_spot node_members node_leaves area_spot
 addressed input acts few b =
     record {
       structure = is_structure input acts b;
       area = has_area input acts;
-      ends = ends input acts 10 few;
+      ends = ends input acts 11 few;
       same = refl;
       none = refl;
       words = omega arith;
@@ -277,22 +281,22 @@ addressed input acts few b =
 head_does :
     (input : List ℕ) (acts : ℕ) → acts + 1 < 2 ^ 64 → IsBegun (twin_block input acts) →
     Does (twin_block input acts) [] (O.assignment offset_spot (offset_of pointer_spot node_spot node_leaves area_spot)
-    10) head_index left_over
+    11) head_index left_over
 head_does input acts few b =
     let n = linked_length (links_of twin_code) 0 twin_code in
     let source = offset_of pointer_spot node_spot node_leaves area_spot in
-    offset_does 0 (twin_block input acts) [] offset_spot of_area source 10 head_index left_over 0 100
-    (offset_placed input acts 10 head_index offset_spot source few b (omega arith) head_linked (omega (arith, n)))
+    offset_does 0 (twin_block input acts) [] offset_spot of_area source 11 head_index left_over 0 100
+    (offset_placed input acts 11 head_index offset_spot source few b (omega arith) head_linked (omega (arith, n)))
     (offset_is input acts b)
-    (address_gives (setting input acts 10) pointer_spot node_spot node_members node_leaves area_spot
+    (address_gives (setting input acts 11) pointer_spot node_spot node_members node_leaves area_spot
     (addressed input acts few b))
 
 -- ---- the first loop
 
 few_tests :
-    (input : List ℕ) (acts : ℕ) → IsBegun (twin_block input acts) → Tests (setting input acts 5) 1 twin_few
+    (input : List ℕ) (acts : ℕ) → IsBegun (twin_block input acts) → Tests (setting input acts 6) 1 twin_few
 few_tests input acts b =
-    let k = setting input acts 5 in
+    let k = setting input acts 6 in
     numbers_tests k Y.IsLess (Y.NumberIn (whole number_spot)) (Y.NumberConstant 3) 0 0
     (variable_does k number_spot b (number_is input acts b)) (constant_does k 3 (omega arith))
 
@@ -302,7 +306,7 @@ make_does :
 make_does input acts few b =
     let k = twin_block input acts in
     let n = linked_length (links_of twin_code) 0 twin_code in
-    loop_does k [] twin_few made_turns 5 make_index left_over 1 100
+    loop_does k [] twin_few made_turns 6 make_index left_over 1 100
     (record {
       act = record { line_fits = omega arith; acts = few };
       registers = omega arith;
@@ -327,8 +331,9 @@ make_does input acts few b =
     }) (
       count_does input acts few b,
       (
-        allocate_does k [] node_spot pointer_spot area_spot node_members node_leaves 7 allocate_index left_over 100
-            (allocation_is input acts few b),
+        allocate_does k [] node_spot pointer_spot area_spot node_members node_leaves 8 allocate_index left_over 100
+            (allocation_is input acts 8 allocate_index pointer_spot few (is_structure input acts b) (omega arith)
+            allocate_linked),
         (
           value_does input acts few b,
           (link_does input acts few b, (head_does input acts few b, tt)),
@@ -388,19 +393,19 @@ written_does input acts line place few b =
 -- their format lists are found at each point
 formats_known :
     (input : List ℕ) (acts : ℕ) → IsBegun (twin_block input acts) →
-    KnowsFormats (twin_block input acts) (twin_formats 17)
+    KnowsFormats (twin_block input acts) (twin_formats 19)
 unfolding L.formats_move_data
 formats_known input acts b =
-    list_placed twin_program (twin_block input acts) (twin_formats 17) twin_fits
+    list_placed twin_program (twin_block input acts) (twin_formats 19) twin_fits
     (main_of_program twin_program (run_of input acts) (twin_block input acts) refl refl refl b)
     ((omega arith, omega arith), (omega arith, tt)) refl refl
 
 last_known :
     (input : List ℕ) (acts : ℕ) → IsBegun (twin_block input acts) →
-    KnowsFormats (twin_block input acts) (twin_formats 21)
+    KnowsFormats (twin_block input acts) (twin_formats 23)
 unfolding L.formats_move_data
 last_known input acts b =
-    list_placed twin_program (twin_block input acts) (twin_formats 21) twin_fits
+    list_placed twin_program (twin_block input acts) (twin_formats 23) twin_fits
     (main_of_program twin_program (run_of input acts) (twin_block input acts) refl refl refl b)
     ((omega arith, omega arith), (omega arith, tt)) refl refl
 
@@ -446,15 +451,15 @@ pointing_is input acts line index x a few b area low l paid =
 next_does :
     (input : List ℕ) (acts : ℕ) → acts + 1 < 2 ^ 64 → IsBegun (twin_block input acts) →
     Does (twin_block input acts) [] (O.assignment offset_spot (Y.OffsetIn (member_of pointer_spot node_spot
-    next_member)) 18) next_index left_over
+    next_member)) 20) next_index left_over
 next_does input acts few b =
     let n = linked_length (links_of twin_code) 0 twin_code in
     let source = Y.OffsetIn (member_of pointer_spot node_spot next_member) in
-    offset_does 0 (twin_block input acts) [] offset_spot of_area source 18 next_index left_over 0 100
-    (offset_placed input acts 18 next_index offset_spot source few b (omega arith) next_linked (omega (arith, n)))
+    offset_does 0 (twin_block input acts) [] offset_spot of_area source 20 next_index left_over 0 100
+    (offset_placed input acts 20 next_index offset_spot source few b (omega arith) next_linked (omega (arith, n)))
     (offset_is input acts b)
-    (member_gives (setting input acts 18) pointer_spot node_spot node_members node_leaves next_member of_area
-    (is_structure input acts b) next_is (ends input acts 18 few) refl)
+    (member_gives (setting input acts 20) pointer_spot node_spot node_members node_leaves next_member of_area
+    (is_structure input acts b) next_is (ends input acts 20 few) refl)
 
 see_does :
     (input : List ℕ) (acts : ℕ) → acts + 1 < 2 ^ 64 → IsBegun (twin_block input acts) →
@@ -462,7 +467,7 @@ see_does :
 see_does input acts few b =
     let k = twin_block input acts in
     let n = linked_length (links_of twin_code) 0 twin_code in
-    loop_does k [] twin_some seen_turns 15 see_index left_over 1 100
+    loop_does k [] twin_some seen_turns 17 see_index left_over 1 100
     (record {
       act = record { line_fits = omega arith; acts = few };
       registers = omega arith;
@@ -470,8 +475,8 @@ see_does input acts few b =
       statement = see_linked;
       paid = omega (arith, n);
     })
-    (offsets_test (setting input acts 15) false (Y.OffsetIn (whole offset_spot)) Y.NullOffset 0 0
-    (offset_gives input acts 15 b) (null_gives (setting input acts 15)))
+    (offsets_test (setting input acts 17) false (Y.OffsetIn (whole offset_spot)) Y.NullOffset 0 0
+    (offset_gives input acts 17 b) (null_gives (setting input acts 17)))
     (record {
       begun = b;
       turns = omega arith;
@@ -480,15 +485,15 @@ see_does input acts few b =
         (λ label e. absurd (cc e), (λ label e. absurd (cc e), λ label e. absurd (cc e))),
       );
     }) (
-      point_does k [] pointer_spot (Y.OffsetIn (whole offset_spot)) twin_spot 16 follow_index left_over 0 100
-          (pointing_is input acts 16 follow_index offset_spot twin_spot few b (has_twin input acts) (omega arith)
+      point_does k [] pointer_spot (Y.OffsetIn (whole offset_spot)) twin_spot 18 follow_index left_over 0 100
+          (pointing_is input acts 18 follow_index offset_spot twin_spot few b (has_twin input acts) (omega arith)
           follow_linked (omega (arith, n)))
-          (offset_gives input acts 16 b),
+          (offset_gives input acts 18 b),
       (
-        put_does 0 k [] (twin_put 17) write_index left_over 0 100
-            (put_is input acts 17 write_index few b (omega arith) (formats_known input acts b) write_linked
+        put_does 0 k [] (twin_put 19) write_index left_over 0 100
+            (put_is input acts 19 write_index few b (omega arith) (formats_known input acts b) write_linked
             (omega (arith, n)))
-            (((λ place. written_does input acts 17 place few b), tt), tt),
+            (((λ place. written_does input acts 19 place few b), tt), tt),
         (next_does input acts few b, tt),
       ),
     )
@@ -506,38 +511,38 @@ null_does input acts few b =
 
 first_does :
     (input : List ℕ) (acts : ℕ) → acts + 1 < 2 ^ 64 → IsBegun (twin_block input acts) →
-    Does (twin_block input acts) [] (O.assignment first_spot (Y.OffsetIn (whole offset_spot)) 12) first_index left_over
+    Does (twin_block input acts) [] (O.assignment first_spot (Y.OffsetIn (whole offset_spot)) 13) first_index left_over
 first_does input acts few b =
     let n = linked_length (links_of twin_code) 0 twin_code in
     let source = Y.OffsetIn (whole offset_spot) in
-    offset_does 0 (twin_block input acts) [] first_spot of_area source 12 first_index left_over 0 100
-    (offset_placed input acts 12 first_index first_spot source few b (omega arith) first_linked (omega (arith, n)))
-    (first_is input acts b) (offset_gives input acts 12 b)
+    offset_does 0 (twin_block input acts) [] first_spot of_area source 13 first_index left_over 0 100
+    (offset_placed input acts 13 first_index first_spot source few b (omega arith) first_linked (omega (arith, n)))
+    (first_is input acts b) (offset_gives input acts 13 b)
 
 copying_is :
     (input : List ℕ) (acts : ℕ) → acts + 1 < 2 ^ 64 → IsBegun (twin_block input acts) →
-    IsCopying (twin_block input acts) [] twin_spot area_spot 13 copy_index 100
+    IsCopying (twin_block input acts) [] twin_spot area_spot 15 copy_index 100
 copying_is input acts few b =
     record {
       act = record { line_fits = omega arith; acts = few };
       target = has_twin input acts;
       source = has_area input acts;
-      ends = ends input acts 13 few;
+      ends = ends input acts 15 few;
       full = tt;
       statement = copy_linked;
     }
 
 change_does :
     (input : List ℕ) (acts : ℕ) → acts + 1 < 2 ^ 64 → IsBegun (twin_block input acts) →
-    Does (twin_block input acts) [] (B.assignment pointer_spot node_spot value_member (Y.NumberConstant 0) 14)
+    Does (twin_block input acts) [] (B.assignment pointer_spot node_spot value_member (Y.NumberConstant 0) 16)
     change_index left_over
 change_does input acts few b =
     let n = linked_length (links_of twin_code) 0 twin_code in
     assign_does (twin_block input acts) [] pointer_spot node_spot node_members node_leaves value_member
-    (Y.NumberConstant 0) 14 change_index left_over 0 100
-    (value_assigned input acts 14 change_index 0 (Y.NumberConstant 0) few b (omega arith) (omega arith) change_linked
+    (Y.NumberConstant 0) 16 change_index left_over 0 100
+    (value_assigned input acts 16 change_index 0 (Y.NumberConstant 0) few b (omega arith) (omega arith) change_linked
     (omega (arith, n)))
-    (constant_does (setting input acts 14) 0 (omega arith))
+    (constant_does (setting input acts 16) 0 (omega arith))
 
 twin_each :
     (input : List ℕ) (acts : ℕ) → acts + 1 < 2 ^ 64 → IsBegun (twin_block input acts) →
@@ -553,26 +558,40 @@ twin_each input acts few b =
             (omega (arith, n)))
             (constant_does (setting input acts 4) 0 (omega arith)),
         (
-          make_does input acts few b,
+          allocate_does k [] node_spot spare_spot area_spot node_members node_leaves 5 before_index left_over 100
+              (allocation_is input acts 5 before_index spare_spot few (is_spare input acts b) (omega arith)
+              before_linked),
           (
-            first_does input acts few b,
+            make_does input acts few b,
             (
-              copy_does k [] twin_spot area_spot 13 copy_index left_over 100 (copying_is input acts few b),
+              first_does input acts few b,
               (
-                change_does input acts few b,
+                free_does k [] spare_spot node_spot node_members node_leaves 14 free_index left_over 100
+                    (record {
+                      act = record { line_fits = omega arith; acts = few };
+                      structure = is_spare input acts b;
+                      ends = ends input acts 14 few;
+                      statement = free_linked;
+                    }),
                 (
-                  see_does input acts few b,
+                  copy_does k [] twin_spot area_spot 15 copy_index left_over 100 (copying_is input acts few b),
                   (
-                    point_does k [] pointer_spot (Y.OffsetIn (whole first_spot)) area_spot 20 back_index left_over 0 100
-                        (pointing_is input acts 20 back_index first_spot area_spot few b (has_area input acts)
-                        (omega arith) back_linked (omega (arith, n)))
-                        (variable_gives (setting input acts 20) first_spot of_area b (first_is input acts b)),
+                    change_does input acts few b,
                     (
-                      put_does 0 k [] (twin_put 21) last_index left_over 0 100
-                          (put_is input acts 21 last_index few b (omega arith) (last_known input acts b) last_linked
-                          (omega (arith, n)))
-                          (((λ place. written_does input acts 21 place few b), tt), tt),
-                      tt,
+                      see_does input acts few b,
+                      (
+                        point_does k [] pointer_spot (Y.OffsetIn (whole first_spot)) area_spot 22 back_index left_over 0 100
+                            (pointing_is input acts 22 back_index first_spot area_spot few b (has_area input acts)
+                            (omega arith) back_linked (omega (arith, n)))
+                            (variable_gives (setting input acts 22) first_spot of_area b (first_is input acts b)),
+                        (
+                          put_does 0 k [] (twin_put 23) last_index left_over 0 100
+                              (put_is input acts 23 last_index few b (omega arith) (last_known input acts b) last_linked
+                              (omega (arith, n)))
+                              (((λ place. written_does input acts 23 place few b), tt), tt),
+                          tt,
+                        ),
+                      ),
                     ),
                   ),
                 ),
@@ -605,7 +624,7 @@ twin_is input acts few =
         stands = main_linked;
         end = refl;
         kind = refl;
-        labels = (λ label e. absurd (cc e), (λ label e. absurd (cc e), (λ label e. absurd (cc e), (λ label e. absurd (cc e), (λ label e. absurd (cc e), (λ label e. absurd (cc e), (λ label e. absurd (cc e), (λ label e. absurd (cc e), (λ label e. absurd (cc e), λ label e. absurd (cc e))))))))));
+        labels = (λ label e. absurd (cc e), (λ label e. absurd (cc e), (λ label e. absurd (cc e), (λ label e. absurd (cc e), (λ label e. absurd (cc e), (λ label e. absurd (cc e), (λ label e. absurd (cc e), (λ label e. absurd (cc e), (λ label e. absurd (cc e), (λ label e. absurd (cc e), (λ label e. absurd (cc e), λ label e. absurd (cc e))))))))))));
         acts = few;
       };
       room = record { room = omega arith; shallow = refl; parent = tt; idle = refl };
@@ -625,7 +644,7 @@ twin_layout =
       units = [];
       constants = constants_in twin_code;
       fills = [];
-      serials = 6;
+      serials = 7;
       made = newest_all parts twin_variables;
     }
 

@@ -1,5 +1,5 @@
--- A worked row: a main procedure that links three structures in an area to a list by offsets, assigns the area to another,
--- changes one of them, and walks the list in the copy by the same offsets.
+-- A worked row: a main procedure that links three structures in an area to a list by offsets, frees what stands before
+-- them, assigns the area to another, changes one of them, and walks the list in the copy by the same offsets.
 use Rattle.std.specs.Prelude.{ℕ, pos, ◌≡◌, ◌+◌, List, [], ◌∷◌, None, Option, Some, false}
 use Rattle.pli_language.specs.Tree as T
 use Rattle.pli_typing.specs.TypedTree as Y
@@ -22,6 +22,7 @@ use Rattle.expression_runs.specs.Variables.{Spot, number_declared, number_leaf, 
 use Rattle.area_runs.specs.Allocations.{allocation}
 use Rattle.area_runs.specs.Based.{pointer_declared}
 use Rattle.area_assignments.specs.Copying.{copying}
+use Rattle.area_freeings.specs.Freeing.{freeing}
 use Rattle.edit_runs.specs.Edits.{Put, put_of}
 use Rattle.member_runs.specs.MemberAssignments as B
 use Rattle.member_runs.specs.Members.{member_of, structure_declared}
@@ -33,9 +34,10 @@ use Rattle.offset_runs.specs.Offsets.{offset_declared}
 -- ---- the program, from its first line on
 
 -- DECLARE A AREA(256), P POINTER, 1 N BASED, 2 V FIXED BINARY(31), 2 NX OFFSET(A), B AREA(256), (O, F) OFFSET(A),
---   X FIXED BINARY(31);
+--   X FIXED BINARY(31), Q POINTER;
 -- O = NULL();
 -- X = 0;
+-- ALLOCATE N SET(Q) IN(A);
 -- DO WHILE (X < 3);
 --   X = X + 1;
 --   ALLOCATE N SET(P) IN(A);
@@ -44,6 +46,7 @@ use Rattle.offset_runs.specs.Offsets.{offset_declared}
 --   O = ADDR(P->N);
 -- END;
 -- F = O;
+-- FREE Q->N;
 -- B = A;
 -- P->V = 0;
 -- DO WHILE (O ^= NULL());
@@ -85,6 +88,9 @@ area_declared =
       evaluations = [];
     }
 
+abbrev pub spare_spot : Spot
+spare_spot = record { block = 0; level = 0; index = 7 }
+
 -- the area that the offsets are declared with
 abbrev pub of_area : Option Y.Variable
 of_area = Some (variable_of area_spot)
@@ -112,6 +118,9 @@ twin_null = O.assignment offset_spot Y.NullOffset 3
 abbrev pub twin_zero : Y.Stmt
 twin_zero = N.assignment number_spot (Y.NumberConstant 0) 4
 
+abbrev pub twin_before : Y.Stmt
+twin_before = allocation node_spot spare_spot area_spot 5
+
 abbrev pub twin_few : Y.Bit
 twin_few = Y.NumbersCompared Y.IsLess (Y.NumberIn (whole number_spot)) (Y.NumberConstant 3)
 
@@ -119,22 +128,22 @@ abbrev pub twin_sum : Y.Number
 twin_sum = Y.Calculated Y.Sum (Y.NumberIn (whole number_spot)) (Y.NumberConstant 1)
 
 abbrev pub twin_count : Y.Stmt
-twin_count = N.assignment number_spot twin_sum 6
+twin_count = N.assignment number_spot twin_sum 7
 
 abbrev pub twin_allocate : Y.Stmt
-twin_allocate = allocation node_spot pointer_spot area_spot 7
+twin_allocate = allocation node_spot pointer_spot area_spot 8
 
 abbrev pub twin_twice : Y.Number
 twin_twice = Y.Calculated Y.Sum (Y.NumberIn (whole number_spot)) (Y.NumberIn (whole number_spot))
 
 abbrev pub twin_value : Y.Stmt
-twin_value = B.assignment pointer_spot node_spot value_member twin_twice 8
+twin_value = B.assignment pointer_spot node_spot value_member twin_twice 9
 
 abbrev pub twin_link : Y.Stmt
-twin_link = O.keeping pointer_spot node_spot next_member (Y.OffsetIn (whole offset_spot)) 9
+twin_link = O.keeping pointer_spot node_spot next_member (Y.OffsetIn (whole offset_spot)) 10
 
 abbrev pub twin_head : Y.Stmt
-twin_head = O.assignment offset_spot (offset_of pointer_spot node_spot node_leaves area_spot) 10
+twin_head = O.assignment offset_spot (offset_of pointer_spot node_spot node_leaves area_spot) 11
 
 abbrev pub made_5 : Y.Stmts
 made_5 = Y.StmtThen [] twin_head (Y.EndOfList [])
@@ -152,22 +161,25 @@ abbrev pub made_turns : Y.Stmts
 made_turns = Y.StmtThen [] twin_count made_2
 
 abbrev pub twin_make : Y.Stmt
-twin_make = Y.DoWhile twin_few made_turns 5
+twin_make = Y.DoWhile twin_few made_turns 6
 
 abbrev pub twin_first : Y.Stmt
-twin_first = O.assignment first_spot (Y.OffsetIn (whole offset_spot)) 12
+twin_first = O.assignment first_spot (Y.OffsetIn (whole offset_spot)) 13
+
+abbrev pub twin_free : Y.Stmt
+twin_free = freeing spare_spot node_spot 14
 
 abbrev pub twin_copy : Y.Stmt
-twin_copy = copying twin_spot area_spot 13
+twin_copy = copying twin_spot area_spot 15
 
 abbrev pub twin_change : Y.Stmt
-twin_change = B.assignment pointer_spot node_spot value_member (Y.NumberConstant 0) 14
+twin_change = B.assignment pointer_spot node_spot value_member (Y.NumberConstant 0) 16
 
 abbrev pub twin_some : Y.Bit
 twin_some = Y.OffsetsCompared false (Y.OffsetIn (whole offset_spot)) Y.NullOffset
 
 abbrev pub twin_follow : Y.Stmt
-twin_follow = pointing pointer_spot (Y.OffsetIn (whole offset_spot)) twin_spot 16
+twin_follow = pointing pointer_spot (Y.OffsetIn (whole offset_spot)) twin_spot 18
 
 -- what is read of the structure that the pointer points to
 abbrev pub twin_formats : (line : ℕ) → T.Formats
@@ -187,10 +199,10 @@ twin_put line =
     }
 
 abbrev pub twin_write : Y.Stmt
-twin_write = put_of (twin_put 17)
+twin_write = put_of (twin_put 19)
 
 abbrev pub twin_next : Y.Stmt
-twin_next = O.assignment offset_spot (Y.OffsetIn (member_of pointer_spot node_spot next_member)) 18
+twin_next = O.assignment offset_spot (Y.OffsetIn (member_of pointer_spot node_spot next_member)) 20
 
 abbrev pub seen_3 : Y.Stmts
 seen_3 = Y.StmtThen [] twin_next (Y.EndOfList [])
@@ -202,34 +214,40 @@ abbrev pub seen_turns : Y.Stmts
 seen_turns = Y.StmtThen [] twin_follow seen_2
 
 abbrev pub twin_see : Y.Stmt
-twin_see = Y.DoWhile twin_some seen_turns 15
+twin_see = Y.DoWhile twin_some seen_turns 17
 
 abbrev pub twin_back : Y.Stmt
-twin_back = pointing pointer_spot (Y.OffsetIn (whole first_spot)) area_spot 20
+twin_back = pointing pointer_spot (Y.OffsetIn (whole first_spot)) area_spot 22
 
 abbrev pub twin_last : Y.Stmt
-twin_last = put_of (twin_put 21)
+twin_last = put_of (twin_put 23)
+
+abbrev pub twin_11 : Y.Stmts
+twin_11 = Y.StmtThen [] twin_last (Y.EndOfList [])
+
+abbrev pub twin_10 : Y.Stmts
+twin_10 = Y.StmtThen [] twin_back twin_11
 
 abbrev pub twin_9 : Y.Stmts
-twin_9 = Y.StmtThen [] twin_last (Y.EndOfList [])
+twin_9 = Y.StmtThen [] twin_see twin_10
 
 abbrev pub twin_8 : Y.Stmts
-twin_8 = Y.StmtThen [] twin_back twin_9
+twin_8 = Y.StmtThen [] twin_change twin_9
 
 abbrev pub twin_7 : Y.Stmts
-twin_7 = Y.StmtThen [] twin_see twin_8
+twin_7 = Y.StmtThen [] twin_copy twin_8
 
 abbrev pub twin_6 : Y.Stmts
-twin_6 = Y.StmtThen [] twin_change twin_7
+twin_6 = Y.StmtThen [] twin_free twin_7
 
 abbrev pub twin_5 : Y.Stmts
-twin_5 = Y.StmtThen [] twin_copy twin_6
+twin_5 = Y.StmtThen [] twin_first twin_6
 
 abbrev pub twin_4 : Y.Stmts
-twin_4 = Y.StmtThen [] twin_first twin_5
+twin_4 = Y.StmtThen [] twin_make twin_5
 
 abbrev pub twin_3 : Y.Stmts
-twin_3 = Y.StmtThen [] twin_make twin_4
+twin_3 = Y.StmtThen [] twin_before twin_4
 
 abbrev pub twin_2 : Y.Stmts
 twin_2 = Y.StmtThen [] twin_zero twin_3
@@ -242,7 +260,7 @@ twin_program =
     record {
       variables =
           (area_declared ∷ pointer_declared ∷ structure_declared node_members node_leaves ∷ area_declared
-          ∷ offset_declared of_area ∷ offset_declared of_area ∷ number_declared [] ∷ [])
+          ∷ offset_declared of_area ∷ offset_declared of_area ∷ number_declared [] ∷ pointer_declared ∷ [])
           ∷ [];
       procedures =
           record { block = Y.BlockOf (row_head 0 0 1) twin_body; parameters = []; result = None } ∷ [];
@@ -267,6 +285,9 @@ first_made = record { index = 5; declared = offset_declared of_area; number = 3;
 
 abbrev pub number_made : Declared
 number_made = record { index = 6; declared = number_declared []; number = 4; place = 848 }
+
+abbrev pub spare_made : Declared
+spare_made = record { index = 7; declared = pointer_declared; number = 1; place = 880 }
 
 -- ---- its image
 
@@ -293,9 +314,9 @@ pub record TwinKept : Type 0 where
   -- the structure that was changed has its old value in the copy, and the new one in the first area
   pub ends :
       (input : List ℕ) →
-      meaning twin_program input 47
+      meaning twin_program input 49
       ≡ Some (record {
-        acts = 47;
+        acts = 49;
         output = 32 ∷ 32 ∷ 54 ∷ 32 ∷ 32 ∷ 52 ∷ 32 ∷ 32 ∷ 50 ∷ 32 ∷ 32 ∷ 48 ∷ 10 ∷ [];
         raised = [];
         end = E.Finished;
