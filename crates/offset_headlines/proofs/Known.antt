@@ -33,9 +33,12 @@ use Rattle.locator_runs.specs.Pointers.{IsPointer}
 use Rattle.member_runs.specs.Members.{IsMember, IsStructure}
 use Rattle.block_headlines.proofs.VariableRuns.{fits}
 use Rattle.offset_runs.specs.Offsets.{IsOffsetVariable, offset_declared}
-use Rattle.offset_headlines.specs.Rows.{area_declared, area_made, area_spot, first_made, first_spot, next_member, node_leaves, node_members}
-use Rattle.offset_headlines.specs.Rows.{node_spot, number_made, number_spot, of_area, offset_made, offset_spot, pointer_made}
-use Rattle.offset_headlines.specs.Rows.{pointer_spot, spare_made, spare_spot, twin_entry, twin_environment, twin_made, twin_main, twin_program}
+use Rattle.offset_headlines.specs.Rows.{area_declared, area_made, area_spot, first_made, first_spot, next_member}
+use Rattle.offset_headlines.specs.Rows.{node_leaves, node_members}
+use Rattle.offset_headlines.specs.Rows.{node_spot, number_made, number_spot, of_area, offset_made, offset_spot}
+use Rattle.offset_headlines.specs.Rows.{pointer_made}
+use Rattle.offset_headlines.specs.Rows.{pointer_spot, spare_made, spare_spot, twin_entry, twin_environment, twin_made}
+use Rattle.offset_headlines.specs.Rows.{twin_main, twin_program}
 use Rattle.offset_headlines.specs.Rows.{twin_spot, value_member}
 use Rattle.offset_headlines.proofs.Placed.{twin_code, twin_finish}
 
@@ -83,7 +86,13 @@ all_differ =
         (
           record {
             headed = refl;
-            leaved = (record { sized = refl; few = omega arith; bounded = tt; placed = refl }, (record { sized = refl; few = omega arith; bounded = tt; placed = refl }, tt));
+            leaved = (
+              record { sized = refl; few = omega arith; bounded = tt; placed = refl },
+              (
+                record { sized = refl; few = omega arith; bounded = tt; placed = refl },
+                tt,
+              ),
+            );
           },
           (tt, (tt, tt)),
           (
@@ -124,8 +133,76 @@ twin_all input acts =
     let n = linked_length (links_of twin_code) 0 twin_code in
     record {
       kind = refl;
-      those = inl (refl, refl, inl (refl, refl, inr (refl, inl (refl, refl, inl (refl, refl, inl (refl, refl, inl (refl, refl, inl (refl, refl, tt))))))));
-      listed = (record { class = refl; evaluations = refl; late = omega arith; table = refl }, (record { class = refl; evaluations = refl; late = omega arith; table = refl }, (record { class = refl; evaluations = refl; late = omega arith; table = refl }, (record { class = refl; evaluations = refl; late = omega arith; table = refl }, (record { class = refl; evaluations = refl; late = omega arith; table = refl }, (record { class = refl; evaluations = refl; late = omega arith; table = refl }, (record { class = refl; evaluations = refl; late = omega arith; table = refl }, tt)))))));
+      those = inl (
+        refl,
+        refl,
+        inl (
+          refl,
+          refl,
+          inr (
+            refl,
+            inl (
+              refl,
+              refl,
+              inl (
+                refl,
+                refl,
+                inl (
+                  refl,
+                  refl,
+                  inl
+                      (refl, refl, inl (refl, refl, tt)),
+                ),
+              ),
+            ),
+          ),
+        ),
+      );
+      listed = (
+        record { class = refl; evaluations = refl; late = omega arith; table = refl },
+        (
+          record {
+            class =
+                refl;
+            evaluations = refl;
+            late = omega arith;
+            table = refl;
+          },
+          (
+            record {
+              class = refl;
+              evaluations = refl;
+              late
+                  = omega arith;
+              table = refl;
+            },
+            (
+              record { class = refl; evaluations = refl; late = omega arith; table = refl },
+              (
+                record { class = refl; evaluations = refl; late = omega arith; table = refl },
+                (
+                  record {
+                    class = refl;
+                    evaluations = refl;
+                    late = omega arith;
+                    table = refl;
+                  },
+                  (
+                    record {
+                      class = refl;
+                      evaluations = refl;
+                      late =
+                          omega arith;
+                      table = refl;
+                    },
+                    tt,
+                  ),
+                ),
+              ),
+            ),
+          ),
+        ),
+      );
       code = refl;
       made = refl;
       parts = refl;
@@ -324,7 +401,8 @@ pub spare_known :
 spare_known input acts b =
     known_own (surroundings_of (twin_image input acts)) (linked_code twin_code) (main_of (twin_whole input acts))
     (start_point (twin_image input acts)) no_numbers twin_variables spare_made spare_spot
-    (record { high = omega arith; inside = omega arith }) (twin_all input acts) (inr (inr (inr (inr (inr (inr (inl refl)))))))
+    (record { high = omega arith; inside = omega arith }) (twin_all input acts) (inr (inr (inr (inr (inr (inr (inl
+    refl)))))))
     (record { declared = refl; index = refl; level = refl; own = refl; place = refl }) b
 
 pub spare_is :

@@ -18,10 +18,13 @@ use Rattle.program_places.proofs.Marks.{named_has}
 use Rattle.program_runs.specs.Procedures.{begin_of, end_of, procedure_code}
 use Rattle.program_runs.specs.Starts.{start_of}
 use Rattle.test_runs.proofs.Chosen.{past}
-use Rattle.offset_headlines.specs.Rows.{made_2, made_3, made_4, made_5, made_turns, seen_2, seen_3, seen_turns, twin_10, twin_11, twin_2, twin_3}
-use Rattle.offset_headlines.specs.Rows.{twin_4, twin_5, twin_6, twin_7, twin_8, twin_9, twin_allocate, twin_back, twin_before, twin_change}
+use Rattle.offset_headlines.specs.Rows.{made_2, made_3, made_4, made_5, made_turns, seen_2, seen_3, seen_turns, twin_10}
+use Rattle.offset_headlines.specs.Rows.{twin_11, twin_2, twin_3}
+use Rattle.offset_headlines.specs.Rows.{twin_4, twin_5, twin_6, twin_7, twin_8, twin_9, twin_allocate, twin_back}
+use Rattle.offset_headlines.specs.Rows.{twin_before, twin_change}
 use Rattle.offset_headlines.specs.Rows.{twin_copy, twin_count, twin_entry, twin_environment, twin_few, twin_first}
-use Rattle.offset_headlines.specs.Rows.{twin_follow, twin_free, twin_head, twin_last, twin_link, twin_main, twin_make, twin_next}
+use Rattle.offset_headlines.specs.Rows.{twin_follow, twin_free, twin_head, twin_last, twin_link, twin_main, twin_make}
+use Rattle.offset_headlines.specs.Rows.{twin_next}
 use Rattle.offset_headlines.specs.Rows.{twin_null, twin_program, twin_see, twin_some, twin_value, twin_write, twin_zero}
 
 abbrev pub twin_code : Code

@@ -64,14 +64,18 @@ use Rattle.offset_runs.proofs.PointerAssignments.{point_does}
 use Rattle.scalar_runs.specs.Assignments.{IsPlacedWith}
 use Rattle.block_headlines.specs.Headlines.{Layout, Runs}
 use Rattle.block_headlines.proofs.Constants.{constants_stand, main_of_program}
-use Rattle.offset_headlines.specs.Rows.{area_spot, first_spot, made_turns, next_member, node_leaves, node_members, node_spot}
-use Rattle.offset_headlines.specs.Rows.{number_spot, of_area, offset_spot, pointer_spot, seen_turns, spare_spot, twin_body, twin_entry}
+use Rattle.offset_headlines.specs.Rows.{area_spot, first_spot, made_turns, next_member, node_leaves, node_members}
+use Rattle.offset_headlines.specs.Rows.{node_spot}
+use Rattle.offset_headlines.specs.Rows.{number_spot, of_area, offset_spot, pointer_spot, seen_turns, spare_spot}
+use Rattle.offset_headlines.specs.Rows.{twin_body, twin_entry}
 use Rattle.offset_headlines.specs.Rows.{twin_environment, twin_few, twin_formats, twin_main, twin_make, twin_program}
 use Rattle.offset_headlines.specs.Rows.{twin_put, twin_see, twin_some, twin_spot, twin_sum, twin_twice, value_member}
-use Rattle.offset_headlines.proofs.Placed.{StandsAt, allocate_index, allocate_linked, back_index, back_linked, before_index}
+use Rattle.offset_headlines.proofs.Placed.{StandsAt, allocate_index, allocate_linked, back_index, back_linked}
+use Rattle.offset_headlines.proofs.Placed.{before_index}
 use Rattle.offset_headlines.proofs.Placed.{before_linked, change_index, free_index, free_linked}
 use Rattle.offset_headlines.proofs.Placed.{change_linked, coded, copy_index, copy_linked, count_index, count_linked}
-use Rattle.offset_headlines.proofs.Placed.{first_index, first_linked, follow_index, follow_linked, head_index, head_linked}
+use Rattle.offset_headlines.proofs.Placed.{first_index, first_linked, follow_index, follow_linked, head_index}
+use Rattle.offset_headlines.proofs.Placed.{head_linked}
 use Rattle.offset_headlines.proofs.Placed.{last_index, last_linked, link_index, link_linked, main_linked, make_index}
 use Rattle.offset_headlines.proofs.Placed.{make_linked, next_index, next_linked, null_linked, raise_linked, see_index}
 use Rattle.offset_headlines.proofs.Placed.{see_linked, start_linked, twin_code, twin_finish, twin_start, value_index}
@@ -580,7 +584,8 @@ twin_each input acts few b =
                     (
                       see_does input acts few b,
                       (
-                        point_does k [] pointer_spot (Y.OffsetIn (whole first_spot)) area_spot 22 back_index left_over 0 100
+                        point_does k [] pointer_spot (Y.OffsetIn (whole first_spot)) area_spot 22 back_index
+                            left_over 0 100
                             (pointing_is input acts 22 back_index first_spot area_spot few b (has_area input acts)
                             (omega arith) back_linked (omega (arith, n)))
                             (variable_gives (setting input acts 22) first_spot of_area b (first_is input acts b)),
@@ -624,7 +629,43 @@ twin_is input acts few =
         stands = main_linked;
         end = refl;
         kind = refl;
-        labels = (λ label e. absurd (cc e), (λ label e. absurd (cc e), (λ label e. absurd (cc e), (λ label e. absurd (cc e), (λ label e. absurd (cc e), (λ label e. absurd (cc e), (λ label e. absurd (cc e), (λ label e. absurd (cc e), (λ label e. absurd (cc e), (λ label e. absurd (cc e), (λ label e. absurd (cc e), λ label e. absurd (cc e))))))))))));
+        labels = (
+          λ label e. absurd (cc e),
+          (
+            λ label e. absurd (cc e),
+            (
+              λ label e. absurd (cc e),
+              (
+                λ label e. absurd
+                    (cc e),
+                (
+                  λ label e. absurd (cc e),
+                  (
+                    λ label e. absurd (cc e),
+                    (
+                      λ label e. absurd (cc e),
+                      (
+                        λ label e. absurd
+                            (cc e),
+                        (
+                          λ label e. absurd (cc e),
+                          (
+                            λ label e. absurd (cc e),
+                            (
+                              λ label e. absurd (cc e),
+                              λ label e. absurd
+                                  (cc e),
+                            ),
+                          ),
+                        ),
+                      ),
+                    ),
+                  ),
+                ),
+              ),
+            ),
+          ),
+        );
         acts = few;
       };
       room = record { room = omega arith; shallow = refl; parent = tt; idle = refl };

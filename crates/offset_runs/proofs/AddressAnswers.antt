@@ -1,14 +1,14 @@
 -- What services 9 and 14 answer of what a pointer variable points to.
-use Rattle.std.proofs.Common.{◌≡◌, ℕ, ◌+◌, ◌*◌, ◌<◌, ◌≤◌, ◌^◌, List, [], length, None, Some, Option, Bool, true, false}
-use Rattle.std.proofs.Common.{refl, sym, ap, ◌∙◌, subst, arith}
+use Rattle.std.proofs.Common.{◌≡◌, ℕ, ◌+◌, ◌*◌, ◌≤◌, ◌^◌, List, length, None, Some, true}
+use Rattle.std.proofs.Common.{sym, ap, ◌∙◌, subst, arith}
 use Rattle.std.proofs.lemmas.Bool.{le-leb}
 use Rattle.std.proofs.lemmas.Bool.Decides.{nat_tests}
-use Rattle.std.specs.Prelude.{cond, nat_le, ◌&&◌, ◌==◌}
+use Rattle.std.specs.Prelude.{cond, nat_le, ◌&&◌}
 use Rattle.rv_meaning.specs.Machine.{memory_size}
 use Rattle.pli_typing.specs.Signatures.{Pointer}
 use Rattle.pli_typing.specs.TypedTree as Y
-use Rattle.pli_meaning.specs.BasicValues.{BasedName, BasicPointer, Name, NullName, VariableName}
-use Rattle.pli_meaning.specs.Codes.{no_generation_code, not_in_area_code}
+use Rattle.pli_meaning.specs.BasicValues.{BasedName, BasicPointer, Name}
+use Rattle.pli_meaning.specs.Codes.{no_generation_code}
 use Rattle.pli_meaning.specs.Contents.{Generation, placed_at}
 use Rattle.pli_meaning.specs.Evaluating.{offset_within}
 use Rattle.pli_meaning.specs.StorageState as Q
@@ -16,7 +16,7 @@ use Rattle.pli_meaning.specs.StorageState.{AreaContents, area_at, generation_at}
 use Rattle.area_keeper.specs.KeptAreas.{part, with_part}
 use Rattle.pli_serving.specs.Answers.{Answer, Done}
 use Rattle.pli_serving.specs.Arguments.{asked_at, name_in, where_found}
-use Rattle.pli_serving.specs.Bytes.{bytes_at, name_at, name_bytes, name_size, offset_word}
+use Rattle.pli_serving.specs.Bytes.{bytes_at, name_at, name_bytes, name_size}
 use Rattle.pli_serving.specs.Finding.{Found}
 use Rattle.pli_serving.specs.Names.{address_served, locator_served, offset_answered}
 use Rattle.pli_serving.specs.Outcomes.{bad_unless}
@@ -39,10 +39,9 @@ use Rattle.block_runs.proofs.PointGrounds.{StandsIn}
 use Rattle.program_runs.specs.Statements.{Block, IsAmong}
 use Rattle.expression_runs.specs.Variables.{Spot}
 use Rattle.area_runs.specs.Allocations.{HasArea}
-use Rattle.area_runs.proofs.AreaPoints.{AreaAt, area_lives, area_place}
+use Rattle.area_runs.proofs.AreaPoints.{area_lives, area_place}
 use Rattle.area_runs.proofs.BasedPoints.{IsLaidOut}
 use Rattle.area_assignments.proofs.Emptying.{names_area}
-use Rattle.locator_runs.specs.Pointers.{IsPointer}
 use Rattle.locator_runs.proofs.PointerPoints.{PointerAt, name_length, pointer_place}
 use Rattle.member_runs.specs.Members.{IsStructure, structure_shape}
 use Rattle.member_runs.proofs.MemberMeaning.{structure_of}
@@ -86,7 +85,8 @@ copied_answer {p = p} {members = members} {leaves} is o a s m to stored layout r
     let at = pointer_place is.pointer in
     let name = a.points.name in
     let i = asked_named (now p m) stored at is.signature name (structure_shape members leaves)
-    (structure_of members leaves s.extent s.values) (numbered is m o) (name_read is.pointer a m stored layout) s.named in
+    (structure_of members leaves s.extent s.values) (numbered is m o) (name_read is.pointer a m stored layout)
+    s.named in
     let copied : Found → Answer = λ f. Done v.services (with_part (bytes_at name_size at m) to m) at 0 in
     let bytes : bytes_at 16 at m ≡ name_bytes name =
     subst (λ c. part at c m ≡ name_bytes name) (name_length name) (a.tells m stored).tells in

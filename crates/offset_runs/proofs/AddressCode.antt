@@ -14,7 +14,7 @@ use Rattle.pli_coding.specs.Expressions.{refer_checked}
 use Rattle.pli_coding.specs.Frames.{display, has_constant_size, own_offset}
 use Rattle.pli_coding.specs.Instructions.{load_word, number, plus, small, status_tested, tested_service}
 use Rattle.pli_coding.specs.Locating.{FrameName, KnownNumber, Located, based_located, based_number, is_referred}
-use Rattle.pli_coding.specs.Locating.{leaf_place, may_refer, number_loaded, table_number, waiting_name, where_standing}
+use Rattle.pli_coding.specs.Locating.{leaf_place, may_refer, table_number, waiting_name, where_standing}
 use Rattle.pli_coding.specs.Registers.{a0, a1, a2, a3, a7, frame_register}
 use Rattle.program_runs.proofs.Variables.{own_code}
 use Rattle.expression_runs.specs.Values.{in_registers}

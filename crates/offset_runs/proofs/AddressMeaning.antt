@@ -1,11 +1,11 @@
 -- What the offset in an area of what a pointer variable points to means.
-use Rattle.std.proofs.Common.{◌≡◌, ◌≢◌, ℕ, ◌+◌, ◌≤◌, List, [], ◌∷◌, None, Some, Option, Bool, true, false, refl, ap, ◌∙◌}
-use Rattle.std.proofs.Common.{subst, sym, arith}
+use Rattle.std.proofs.Common.{◌≡◌, ℕ, ◌≤◌, List, [], ◌∷◌, None, Some, Option, Bool, true, false, refl, ap, ◌∙◌}
+use Rattle.std.proofs.Common.{arith}
 use Rattle.std.proofs.lemmas.Bool.Decides.{nat_tests}
 use Rattle.std.specs.Prelude.{ℤ, cond, take, ◌==◌}
 use Rattle.pli_typing.specs.Signatures.{Bounds}
 use Rattle.pli_typing.specs.TypedTree as Y
-use Rattle.pli_meaning.specs.BasicValues.{BasedName, BasicValue, Name, NullName, VariableName}
+use Rattle.pli_meaning.specs.BasicValues.{BasicValue, Name}
 use Rattle.pli_meaning.specs.Contents.{Generation, IsOrdered, Placed, end_of, is_within, name_in, placed_at}
 use Rattle.pli_meaning.specs.Control.{Meaning, Normal, choose, flow_on, give, given, looked, stuck, ◌>>=◌, ◌>>◌}
 use Rattle.pli_meaning.specs.DeclaredShapes.{declared_variable, shape_of}
@@ -36,7 +36,8 @@ unfolding V.designated V.located V.pointer V.numbers V.variable_designated given
 through_is around {s} {x} n members leaves k h declared =
     ap (λ q. flow_on k (flow_on k (flow_on k q (λ d. give (name_in (V.value_in d)))) (λ m. give (Some m)))
     (λ o. (V.numbers around Y.NoNumber)
-    >>= (λ is. V.variable_designated around (based_of n) o (whole_structure leaves) is))) (pointer_designated around k h)
+    >>= (λ is. V.variable_designated around (based_of n) o (whole_structure leaves) is))) (pointer_designated around
+    k h)
     ∙ ap (λ v. V.variable_designated around (based_of n) (Some (name_in v)) (whole_structure leaves) [] k s) h.value
     ∙ ap (λ o. given o (λ d. V.part_designated around h.name (shape_of [] d) (whole_structure leaves) []) stuck k s)
     declared

@@ -1,6 +1,7 @@
--- Services 9 and 14 in a run: the name of what a pointer variable points to comes into words of the frame, and its offset
+-- Services 9 and 14 in a run: the name of what a pointer variable points to comes into words of the frame, and its
+-- offset
 -- in an area into a0.
-use Rattle.std.proofs.Common.{◌≡◌, ℕ, ◌+◌, ◌-◌, ◌*◌, ◌^◌, ◌<◌, ◌≤◌, List, [], ◌∷◌, ◌++◌, length, None, Some, Option}
+use Rattle.std.proofs.Common.{◌≡◌, ℕ, ◌+◌, ◌-◌, ◌^◌, ◌<◌, ◌≤◌, List, [], ◌∷◌, ◌++◌, None, Some, Option}
 use Rattle.std.proofs.Common.{refl, sym, ap, ◌∙◌, subst, arith}
 use Rattle.std.specs.Prelude.{false, pos, ◌==◌}
 use Rattle.rv_meaning.specs.declared.instr.BranchTest.TheVariants as Test
@@ -45,7 +46,7 @@ use Rattle.block_runs.specs.Machines.{AreIn}
 use Rattle.block_runs.proofs.BlockEntries.{small_is, word_fits, word_is}
 use Rattle.block_runs.proofs.Places.{IsFrame, word_in}
 use Rattle.block_runs.proofs.PointGrounds.{StandsIn, call_is, known_in, point_frame, point_ground}
-use Rattle.program_runs.specs.Statements.{Block, IsAmong}
+use Rattle.program_runs.specs.Statements.{IsAmong}
 use Rattle.program_runs.proofs.Variables.{own_code, own_comes}
 use Rattle.expression_runs.specs.Values.{Setting}
 use Rattle.expression_runs.specs.Variables.{Spot}
@@ -271,7 +272,8 @@ waits_reach {k = k'} {x} {p = p} {numbers} {i} z s c f l there =
         bytes = length_with_part (name_bytes name) at m (omega (arith, below, bytes, long)) ∙ bytes;
         memory = (
           subst (λ j. StandsIn w p b (with_part (name_bytes name) (j - 16) m)) (sym same)
-              (name_stands w p z.given.area.layer z.given.area.others name b m o.stands (subst IsFrame same h) free bytes
+              (name_stands w p z.given.area.layer z.given.area.others name b m o.stands (subst IsFrame same h) free
+              bytes
               t.body.memory),
           name_told name at m z.at.fits (omega (arith, below, bytes)),
         );
@@ -459,7 +461,8 @@ within_called {k = k'} {a = a} {p = p} {numbers} {i} z name given status c f ans
           (λ call' x0 x1 x2 x3 x4. locator_served call' x0 x1 x2 x3) t.body.services t.regs.0 t.regs.1.1.1.0
           t.regs.1.1.0 refl t.regs.1.0 refl (λ call' y. refl)
           ∙ ap (λ call'. locator_served call' at (area_place area) (regs 12) 1) (call_is w code p m o.image)
-          ∙ offset_served area o (omega (arith, small')) b m t.body.memory.0 (laid_out o (omega (arith, small'))) name at
+          ∙ offset_served area o (omega (arith, small')) b m t.body.memory.0 (laid_out o (omega (arith, small')))
+          name at
           (regs 12) room t.body.memory.1
           ∙ answers m;
     } in

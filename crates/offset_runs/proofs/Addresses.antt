@@ -1,19 +1,19 @@
--- The offset in an area of what a pointer variable points to does what it means: it comes into a0, or ERROR ends the run.
-use Rattle.std.proofs.Common.{◌≡◌, ℕ, ◌+◌, ◌≤◌, ◌<◌, List, [], ◌∷◌, ◌++◌, Option, None, Some, Bool, true, false}
+-- The offset in an area of what a pointer variable points to does what it means: it comes into a0, or ERROR ends the
+-- run.
+use Rattle.std.proofs.Common.{◌≡◌, ℕ, ◌+◌, ◌≤◌, List, [], ◌++◌, Option, None, Some, Bool, true, false}
 use Rattle.std.proofs.Common.{refl, sym, ap, ◌∙◌, subst, arith}
 use Rattle.std.proofs.lemmas.Bool.Decides.{nat_tests}
 use Rattle.std.specs.Prelude.{cond, ◌==◌}
 use Rattle.pli_typing.specs.TypedTree as Y
 use Rattle.pli_meaning.specs.BasicValues.{BasedName, Name, NullName, VariableName}
 use Rattle.pli_meaning.specs.Contents.{Generation}
-use Rattle.pli_meaning.specs.Control.{Meaning, Normal, flow_on, give, ◌>>=◌}
+use Rattle.pli_meaning.specs.Control.{Meaning, flow_on, give, ◌>>=◌}
 use Rattle.pli_meaning.specs.DeclaredShapes.{declared_variable}
 use Rattle.pli_meaning.specs.Evaluating as V
 use Rattle.pli_meaning.specs.Evaluating.{offset_within}
 use Rattle.pli_meaning.specs.Raising as R
 use Rattle.pli_meaning.specs.StorageState as Q
-use Rattle.pli_meaning.specs.StorageState.{State, generation_at}
-use Rattle.pli_serving.specs.Bytes.{offset_word}
+use Rattle.pli_meaning.specs.StorageState.{generation_at}
 use Rattle.pli_coding.specs.Assembly.{size_of}
 use Rattle.pli_coding.specs.Expressions.{offset_code}
 use Rattle.storage_relation.specs.Served.{Holds}
@@ -32,19 +32,17 @@ use Rattle.expression_runs.specs.Values.{Setting, behind, in_registers}
 use Rattle.expression_runs.specs.Variables.{Spot}
 use Rattle.expression_runs.proofs.VariablePoints.{first_base}
 use Rattle.expression_runs.proofs.Words.{word_here}
-use Rattle.variable_runs.specs.Known.{place_of}
 use Rattle.area_runs.specs.Allocations.{HasArea}
 use Rattle.area_runs.specs.Based.{based_of}
-use Rattle.area_runs.proofs.BasedCode.{name_at_place}
 use Rattle.area_assignments.proofs.Emptying.{area_stands}
 use Rattle.locator_runs.proofs.PointerPoints.{pointer_in}
-use Rattle.member_runs.specs.Members.{structure_declared, structure_shape}
+use Rattle.member_runs.specs.Members.{structure_shape}
 use Rattle.member_runs.proofs.MemberPoints.{StructureAt, structure_at}
-use Rattle.offset_runs.specs.OffsetAddresses.{IsAddressed, address_of, offset_of, whole_structure}
+use Rattle.offset_runs.specs.OffsetAddresses.{IsAddressed, offset_of, whole_structure}
 use Rattle.offset_runs.specs.Offsets.{Gives, offset_aims}
 use Rattle.offset_runs.proofs.AddressAnswers.{based_fits}
-use Rattle.offset_runs.proofs.AddressCode.{address_code, address_coded}
-use Rattle.offset_runs.proofs.AddressMeaning.{all_of, behind_found, inside_is, outside_is, part_found, part_missing}
+use Rattle.offset_runs.proofs.AddressCode.{address_coded}
+use Rattle.offset_runs.proofs.AddressMeaning.{behind_found, inside_is, outside_is, part_found, part_missing}
 use Rattle.offset_runs.proofs.AddressMeaning.{through_is, within_area, within_is}
 use Rattle.offset_runs.proofs.AddressRuns.{Addressing, addressed_code, frame_at, inside_reaches, missing_ends}
 use Rattle.offset_runs.proofs.AddressRuns.{outside_ends, waits_reach, within_code}

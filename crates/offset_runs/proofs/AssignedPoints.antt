@@ -1,13 +1,12 @@
 -- The point behind an assignment to an OFFSET variable: all that holds at the point before holds there.
-use Rattle.std.proofs.Common.{◌≡◌, ℕ, ◌+◌, ◌*◌, ◌≤◌, List, [], length, Some, Option, None, refl, ap, ◌∙◌, subst, arith}
+use Rattle.std.proofs.Common.{◌≡◌, ℕ, ◌+◌, ◌*◌, ◌≤◌, List, [], length, Some, Option, refl, ap, ◌∙◌, subst, arith}
 use Rattle.rv_meaning.specs.Machine.{memory_size}
 use Rattle.rv_meaning.specs.Memory.{store}
-use Rattle.pli_typing.specs.Signatures.{Offset}
 use Rattle.pli_typing.specs.TypedTree as Y
 use Rattle.pli_meaning.specs.BasicValues.{BasicOffset, VariableName}
 use Rattle.pli_meaning.specs.Contents.{Generation}
 use Rattle.pli_meaning.specs.Placing.{with_element}
-use Rattle.pli_meaning.specs.StorageState.{State, generation_of}
+use Rattle.pli_meaning.specs.StorageState.{generation_of}
 use Rattle.area_keeper.specs.KeptAreas.{with_part}
 use Rattle.pli_serving.specs.Bytes.{number_bytes, offset_word}
 use Rattle.storage_relation.specs.Changes.{IsAssignable}

@@ -1,13 +1,13 @@
 -- Comparisons of offsets: the left one waits in a register while the right one is evaluated.
-use Rattle.std.proofs.Common.{◌≡◌, ℕ, suc, ◌+◌, ◌<◌, Option, Some, None, Bool, true, false, refl, sym, ap, ◌∙◌, arith}
+use Rattle.std.proofs.Common.{◌≡◌, ℕ, suc, Option, Some, None, Bool, true, false, refl, ap, ◌∙◌, arith}
 use Rattle.std.proofs.lemmas.Bool.Decides.{nat_tests}
-use Rattle.std.specs.Prelude.{bit_xor, cond, max, nat_lt, not, ◌==◌, if◌then◌else◌}
+use Rattle.std.specs.Prelude.{bit_xor, max, nat_lt, not, ◌==◌, if◌then◌else◌}
 use lib.Bits.{xor_self}
 use Rattle.rv_meaning.specs.Words.{flag}
 use Rattle.pli_typing.specs.TypedTree as Y
 use Rattle.pli_meaning.specs.Contents.{same_offset}
 use Rattle.pli_meaning.specs.Evaluating as V
-use Rattle.pli_serving.specs.Bytes.{null_offset, offset_word}
+use Rattle.pli_serving.specs.Bytes.{offset_word}
 use Rattle.pli_coding.specs.Arithmetic.{compared_code, equal_code}
 use Rattle.pli_coding.specs.Expressions.{offset_code}
 use Rattle.storage_relation.specs.Telling.{IsOffset}

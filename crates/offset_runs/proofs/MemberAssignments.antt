@@ -10,15 +10,15 @@ use Rattle.pli_typing.specs.Signatures.{Offset}
 use Rattle.pli_typing.specs.TypedTree as Y
 use Rattle.pli_meaning.specs.BasicValues.{BasicOffset, BasicValue, Name}
 use Rattle.pli_meaning.specs.Contents.{Generation}
-use Rattle.pli_meaning.specs.Control.{Label, Meaning, Normal, act, flow_on, give, stored, ◌>>=◌, ◌>>◌}
+use Rattle.pli_meaning.specs.Control.{Label, Meaning, act, flow_on, give, stored, ◌>>=◌, ◌>>◌}
 use Rattle.pli_meaning.specs.DeclaredShapes.{declared_variable}
 use Rattle.pli_meaning.specs.Evaluating as V
 use Rattle.pli_meaning.specs.Executing as M
 use Rattle.pli_meaning.specs.Placing as P
 use Rattle.pli_meaning.specs.Raising as R
-use Rattle.pli_meaning.specs.Raising.{Around, at_line}
+use Rattle.pli_meaning.specs.Raising.{at_line}
 use Rattle.pli_meaning.specs.StorageState as Q
-use Rattle.pli_meaning.specs.StorageState.{State, with_world}
+use Rattle.pli_meaning.specs.StorageState.{State}
 use Rattle.pli_meaning.specs.World.{World, counted}
 use Rattle.area_keeper.specs.KeptAreas.{with_part}
 use Rattle.pli_serving.specs.Bytes.{offset_word}
@@ -30,7 +30,7 @@ use Rattle.pli_coding.specs.Environments.{Environment, fetch, no_declaration, no
 use Rattle.pli_coding.specs.Expressions.{offset_code, reference_code}
 use Rattle.pli_coding.specs.Instructions.{store_word}
 use Rattle.pli_coding.specs.Locating as C
-use Rattle.pli_coding.specs.Locating.{no_leaf, table_number}
+use Rattle.pli_coding.specs.Locating.{table_number}
 use Rattle.pli_coding.specs.Registers.{a0, u3}
 use Rattle.pli_coding.specs.Storing.{word_stored}
 use Rattle.storage_relation.specs.Keeping.{StoresOffset}
@@ -38,24 +38,22 @@ use Rattle.storage_relation.specs.Served.{place_now}
 use Rattle.storage_relation.specs.Telling.{IsOffset}
 use Rattle.storage_relation.proofs.Values.{number_length, store_is}
 use Rattle.activation_relation.specs.Layers.{Point, now, services_of}
-use Rattle.activation_relation.specs.Points.{Surroundings}
 use Rattle.activation_relation.proofs.Remaining.{shapes_remain}
 use Rattle.run_steps.specs.Bodies.{Known}
 use Rattle.run_steps.specs.Engine.{Base}
 use Rattle.run_steps.specs.Items.{At, Linked}
 use Rattle.run_steps.proofs.Items.{straight}
-use Rattle.run_steps.proofs.Jumps.{back_of, front_of, linked_at}
+use Rattle.run_steps.proofs.Jumps.{back_of, front_of}
 use Rattle.run_steps.proofs.Linking.{size_append}
 use Rattle.run_steps.specs.Owing.{owing}
 use Rattle.run_steps.proofs.Owing.{comes_owing, done_owing, owing_closed}
 use Rattle.run_steps.specs.Reach.{Comes, Family, Reach, before, cost, reached}
 use Rattle.run_steps.proofs.Reach.{before_closed, comes_on, onward, reach_map, reach_then, reached_holds}
 use Rattle.run_steps.proofs.Reaching.{reach_moved}
-use Rattle.run_steps.specs.Temporaries.{Temporaries, nothing}
+use Rattle.run_steps.specs.Temporaries.{nothing}
 use Rattle.run_steps.proofs.Temporaries.{fetch_piece}
 use Rattle.block_runs.specs.Machines.{IsIn, acted}
 use Rattle.block_runs.proofs.CallStatements.{comes_map}
-use Rattle.block_runs.proofs.Places.{IsFrame}
 use Rattle.block_runs.proofs.PointActs.{act_comes}
 use Rattle.block_runs.proofs.PointGrounds.{StandsIn, in_known, point_frame, point_ground}
 use Rattle.program_runs.specs.Statements.{Block, Does, IsAmong, size_in, statement_aims}
@@ -76,10 +74,9 @@ use Rattle.member_runs.specs.Members.{IsMember, IsStructure, member_of, member_p
 use Rattle.member_runs.specs.Members.{structure_shape}
 use Rattle.member_runs.proofs.MemberAssignments.{assigned_found, no_words}
 use Rattle.member_runs.proofs.MemberCode.{found_code, found_coded, leaf_of}
-use Rattle.member_runs.proofs.MemberMeaning.{behind_found, part_found, part_missing, through_is}
+use Rattle.member_runs.proofs.MemberMeaning.{behind_found, part_missing, through_is}
 use Rattle.member_runs.proofs.MemberPoints.{StructureAt, member_place, structure_at}
 use Rattle.member_runs.proofs.MemberPuts.{behind_put, designated_at, place_low, put_among, put_services, put_stands}
-use Rattle.member_runs.proofs.MemberPuts.{put_state}
 use Rattle.member_runs.proofs.MemberReads.{NoMore, found_regs, known_more, living_found, member_ground}
 use Rattle.member_runs.proofs.MemberReads.{missing_ends}
 use Rattle.offset_runs.specs.OffsetAssignments.{IsKeeping, keeping}
@@ -122,8 +119,10 @@ put_coded e x n members leaves member signature area one pointer declared table 
 -- a word in a0 goes where the member stands
 value_goes :
     (k : Block) {members : List Y.Member} {leaves : List Y.Leaf} {member : ℕ} {area : Option Y.Variable}
-    {numbers : ℕ → ℕ} {p : Point} {i : ℕ} {name : Name} (o : IsAmong k numbers p) (s : StructureAt p name members leaves)
-    (one : IsMember leaves member (Y.OffsetLeaf area)) (h : frame_of k p) (at : Base → ℕ) (c : ℕ) (f : Family) (z : Option ℕ) →
+    {numbers : ℕ → ℕ} {p : Point} {i : ℕ} {name : Name} (o : IsAmong k numbers p) (s : StructureAt p name members
+    leaves)
+    (one : IsMember leaves member (Y.OffsetLeaf area)) (h : frame_of k p) (at : Base → ℕ) (c : ℕ) (f : Family) (z :
+    Option ℕ) →
     IsOffset z → 4 * length k.call.code ≤ p.places.low →
     ((b : Base) → (at b % 4 ≡ 0) × (at b + 4 ≤ memory_size)) →
     Linked k.call.surroundings.links k.call.code i value_stored →
@@ -134,7 +133,8 @@ value_goes :
     (λ b y. At b (i + size_of value_stored)
     (Known (point_ground k.call.surroundings (behind_put s member (BasicOffset z)) h) (services_of p) numbers (λ j. 0)
     nothing b) y)
-value_goes k {leaves = leaves} {member} {numbers = numbers} {p} {i} {name} o s one h at c f z fits low facts linked there =
+value_goes k {leaves = leaves} {member} {numbers = numbers} {p} {i} {name} o s one h at c f z fits low facts linked
+    there =
     let w = k.call.surroundings in
     let v = services_of p in
     let q = behind_put s member (BasicOffset z) in
@@ -272,7 +272,8 @@ goes_by :
     (V.part_designated (at_line k.around line) a.points.name (structure_shape members leaves) (member_part member) []
     k.call.surroundings.acts p.state)
     (λ d. P.element_stored d (BasicOffset z)))
-goes_by k labels x n members leaves member area source line index left' need most h acts wanted debt i p numbers o c j f z
+goes_by k labels x n members leaves member area source line index left' need most h acts wanted debt i p numbers o c
+    j f z
     fits since at_line' paid afford end l there a None none =
     let w = k.call.surroundings in
     let code = k.call.code in
@@ -301,10 +302,12 @@ goes_by k labels x n members leaves member area source line index left' need mos
     (sym (part_missing around' p.state a.points.name members leaves member w.acts none))
     (comes_on w.acts (R.error {R = Generation} around' 101 w.acts p.state) rest
     (onward closed r1 (λ g at.
-    missing_ends {k = setting} {numbers = held_after numbers 0 (offset_word z)} closed is member h.own.few h.ends around'
+    missing_ends {k = setting} {numbers = held_after numbers 0 (offset_word z)} closed is member h.own.few h.ends
+    around'
     o' a frame (c + size_of saves) g none at_line' (omega (arith, afford, n1))
     (front_of finds back (back_of saves (finds ++ back) l)) (λ b. in_known frame o.image.parts (at b))))))
-goes_by k labels x n members leaves member area source line index left' need most h acts wanted debt i p numbers o c j f z
+goes_by k labels x n members leaves member area source line index left' need most h acts wanted debt i p numbers o c
+    j f z
     fits since at_line' paid afford end l there a (Some g) some' =
     let w = k.call.surroundings in
     let code = k.call.code in
@@ -345,7 +348,8 @@ stored_goes :
     Comes k.call.code c' f' v' (owing k.call.code debt (statement_aims k labels acts i wanted left'))
     (put_in k x n member line (BasicOffset z) k.call.surroundings.acts s)
 unfolding M.assigned ◌>>=◌
-stored_goes k labels x n members leaves member area source line index left' need most h acts wanted debt i c' f' v' z s y
+stored_goes k labels x n members leaves member area source line index left' need most h acts wanted debt i c' f' v'
+    z s y
     since same fits q paid afford end l =
     let w = k.call.surroundings in
     let code = k.call.code in

@@ -7,7 +7,7 @@ use Rattle.rv_meaning.specs.Machine.{memory_size}
 use Rattle.rv_meaning.specs.Memory.{load}
 use Rattle.pli_typing.specs.Signatures.{LeafKind, Offset}
 use Rattle.pli_typing.specs.TypedTree as Y
-use Rattle.pli_meaning.specs.BasicValues.{BasicBit, BasicNumber, BasicOffset, BasicPointer, BasicText, BasicValue, Name}
+use Rattle.pli_meaning.specs.BasicValues.{BasicOffset, Name}
 use Rattle.pli_meaning.specs.Contents.{Generation, offset_in, seen}
 use Rattle.pli_meaning.specs.Control.{Meaning, Normal, give, ◌>>=◌}
 use Rattle.pli_meaning.specs.DeclaredShapes.{declared_variable}
@@ -45,7 +45,8 @@ use Rattle.area_runs.specs.Based.{Ends, based_of, pointer_declared}
 use Rattle.area_runs.proofs.BasedCode.{name_at_place, value_loaded}
 use Rattle.area_runs.proofs.BasedReads.{there_at}
 use Rattle.locator_runs.proofs.PointerPoints.{PointerAt, pointer_in}
-use Rattle.member_runs.specs.Members.{IsMember, IsStructure, member_of, member_part, structure_declared, structure_shape}
+use Rattle.member_runs.specs.Members.{IsMember, IsStructure, member_of, member_part, structure_declared}
+use Rattle.member_runs.specs.Members.{structure_shape}
 use Rattle.member_runs.proofs.MemberCode.{found_code, found_coded, leaf_of, read_code}
 use Rattle.member_runs.proofs.MemberMeaning.{behind_found, designated_member, part_found, part_missing, seen_is}
 use Rattle.member_runs.proofs.MemberMeaning.{through_is}

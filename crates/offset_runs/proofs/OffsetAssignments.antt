@@ -1,11 +1,11 @@
 -- An assignment to an OFFSET variable: its act, its value, and the store; the act pays for all of it.
-use Rattle.std.proofs.Common.{◌≡◌, ℕ, ◌+◌, ◌≤◌, List, [], ◌++◌, Option, refl, sym, ap, ◌∙◌, subst, arith}
+use Rattle.std.proofs.Common.{◌≡◌, ℕ, ◌+◌, ◌≤◌, List, ◌++◌, Option, refl, sym, ap, ◌∙◌, subst, arith}
 use Rattle.std.specs.Prelude.{pos, ◌==◌}
 use Rattle.rv_meaning.specs.declared.instr.StoreKind.TheVariants as Store
 use Rattle.rv_meaning.specs.Machine.{value}
 use Rattle.pli_typing.specs.TypedTree as Y
 use Rattle.pli_meaning.specs.BasicValues.{BasicOffset, BasicValue}
-use Rattle.pli_meaning.specs.Control.{Flow, Label, Meaning, act, flow_on, give, ◌>>=◌, ◌>>◌}
+use Rattle.pli_meaning.specs.Control.{Label, Meaning, act, give, ◌>>=◌, ◌>>◌}
 use Rattle.pli_meaning.specs.Evaluating as V
 use Rattle.pli_meaning.specs.Executing as M
 use Rattle.pli_meaning.specs.Raising.{at_line}
@@ -40,7 +40,7 @@ use Rattle.program_runs.proofs.Statements.{acted_among, goes_here, statement_clo
 use Rattle.expression_runs.specs.Assignments.{setting_around}
 use Rattle.expression_runs.specs.Values.{HasWord, Stretch, behind}
 use Rattle.expression_runs.specs.Variables.{Spot, number_place, whole}
-use Rattle.expression_runs.proofs.VariablePoints.{first_base, reaches_by}
+use Rattle.expression_runs.proofs.VariablePoints.{reaches_by}
 use Rattle.expression_runs.proofs.Words.{known_word}
 use Rattle.scalar_runs.specs.Assignments.{IsPlacedWith}
 use Rattle.scalar_runs.proofs.ScalarCode.{stores}

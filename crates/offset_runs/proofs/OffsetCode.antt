@@ -1,16 +1,15 @@
 -- The code that loads an OFFSET variable, and that which stores in it.
-use Rattle.std.proofs.Common.{◌≡◌, ℕ, ◌++◌, Option, Some, true, ap, ◌∙◌}
+use Rattle.std.proofs.Common.{◌≡◌, ◌++◌, Option, Some, true, ap, ◌∙◌}
 use Rattle.std.specs.Prelude.{pos, ◌&&◌, slice_get, unwrap_or, if◌then◌else◌}
 use Rattle.rv_meaning.specs.declared.instr.LoadKind.TheVariants as Load
 use Rattle.rv_meaning.specs.declared.instr.StoreKind.TheVariants as Store
 use Rattle.pli_typing.specs.TypedTree as Y
 use Rattle.pli_meaning.specs.DeclaredShapes.{declared_variable}
-use Rattle.pli_coding.specs.Assembly.{Code}
 use Rattle.pli_coding.specs.Environments.{Environment, Taken, fetch, no_declaration, save, with_number}
 use Rattle.pli_coding.specs.Expressions.{address_in, offset_code, reference_code, type_in}
 use Rattle.pli_coding.specs.Frames.{has_constant_size}
 use Rattle.pli_coding.specs.Instructions.{store_word}
-use Rattle.pli_coding.specs.Locating.{frame_found, frame_in, loaded, no_leaf, stored}
+use Rattle.pli_coding.specs.Locating.{frame_in, loaded, no_leaf, stored}
 use Rattle.pli_coding.specs.Registers.{a0, u3}
 use Rattle.pli_coding.specs.Storing.{is_near, word_stored}
 use Rattle.expression_runs.specs.Variables.{Spot, number_place, variable_of, whole}

@@ -5,7 +5,7 @@ use Rattle.pli_typing.specs.Signatures.{Offset, scalar}
 use Rattle.pli_typing.specs.TypedTree as Y
 use Rattle.pli_meaning.specs.BasicValues.{BasicOffset, BasicValue, VariableName}
 use Rattle.pli_meaning.specs.Contents.{Generation, Shape, is_within, offset_in}
-use Rattle.pli_meaning.specs.Control.{Meaning, Normal, choose, flow_on, give, looked, stored, ◌>>=◌, ◌>>◌}
+use Rattle.pli_meaning.specs.Control.{Normal, choose, flow_on, give, looked, stored, ◌>>=◌, ◌>>◌}
 use Rattle.pli_meaning.specs.Evaluating as V
 use Rattle.pli_meaning.specs.Executing as M
 use Rattle.pli_meaning.specs.Placing as P

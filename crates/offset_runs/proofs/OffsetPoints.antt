@@ -1,7 +1,7 @@
 -- An OFFSET variable at a point of a block: what it holds there, and where that stands.
-use Rattle.std.proofs.Common.{◌≡◌, ℕ, ◌+◌, ◌*◌, ◌%◌, ◌<◌, ◌≤◌, ◌^◌, List, [], Some, Option, refl, sym, ap, ◌∙◌}
+use Rattle.std.proofs.Common.{◌≡◌, ℕ, ◌+◌, ◌*◌, ◌%◌, ◌<◌, List, [], Some, Option, refl, ap, ◌∙◌}
 use Rattle.std.proofs.Common.{subst, arith}
-use Rattle.std.specs.Prelude.{ℤ, pos}
+use Rattle.std.specs.Prelude.{pos}
 use Rattle.rv_meaning.specs.Memory.{load}
 use Rattle.pli_typing.specs.Signatures.{Offset}
 use Rattle.pli_typing.specs.TypedTree as Y

@@ -1,11 +1,11 @@
 -- NULL and OFFSET variables of a block as offsets: the code that leaves their words.
-use Rattle.std.proofs.Common.{◌≡◌, ℕ, ◌+◌, ◌^◌, ◌<◌, ◌≤◌, List, [], Some, None, Option, refl, sym, ap, ◌∙◌, subst, arith}
+use Rattle.std.proofs.Common.{ℕ, ◌+◌, ◌^◌, ◌<◌, List, Some, None, Option, refl, sym, ap, subst, arith}
 use Rattle.std.specs.Prelude.{negsuc, pos, ◌==◌}
 use Rattle.rv_meaning.specs.declared.instr.LoadKind.TheVariants as Load
 use Rattle.pli_typing.specs.TypedTree as Y
 use Rattle.pli_meaning.specs.Control.{give}
 use Rattle.pli_meaning.specs.Evaluating as V
-use Rattle.pli_serving.specs.Bytes.{null_offset, offset_word}
+use Rattle.pli_serving.specs.Bytes.{offset_word}
 use Rattle.pli_coding.specs.Assembly.{size_of}
 use Rattle.pli_coding.specs.Expressions.{offset_code}
 use Rattle.pli_coding.specs.Registers.{a0}

@@ -1,4 +1,5 @@
--- A POINTER variable that is assigned a pointer into an area: its act, its offset, and service 14, which writes the name.
+-- A POINTER variable that is assigned a pointer into an area: its act, its offset, and service 14, which writes the
+-- name.
 use Rattle.std.proofs.Common.{◌≡◌, ℕ, ◌+◌, ◌≤◌, ◌*◌, ◌^◌, List, [], ◌∷◌, ◌++◌, Option, None, Some, true}
 use Rattle.std.proofs.Common.{refl, sym, ap, ◌∙◌, subst, arith}
 use Rattle.std.proofs.lemmas.Bool.{le-leb}
@@ -19,7 +20,7 @@ use Rattle.pli_meaning.specs.World.{counted}
 use Rattle.area_keeper.specs.KeptAreas.{with_part}
 use Rattle.area_keeper.proofs.Agreement.{length_with_part}
 use Rattle.pli_serving.specs.Answers.{Answer, Done}
-use Rattle.pli_serving.specs.Bytes.{is_data, name_bytes, name_size, offset_word}
+use Rattle.pli_serving.specs.Bytes.{name_bytes, offset_word}
 use Rattle.pli_serving.specs.Names.{locator_served}
 use Rattle.pli_serving.specs.ServiceState.{Services}
 use Rattle.pli_coding.specs.Allocating.{act_code}
@@ -40,7 +41,7 @@ use Rattle.run_steps.proofs.Calls.{call_done, called}
 use Rattle.run_steps.specs.Engine.{Base}
 use Rattle.run_steps.specs.Items.{At, Linked}
 use Rattle.run_steps.proofs.Items.{straight}
-use Rattle.run_steps.proofs.Jumps.{back_of, first_of, front_of}
+use Rattle.run_steps.proofs.Jumps.{back_of, front_of}
 use Rattle.run_steps.proofs.Linking.{size_append}
 use Rattle.run_steps.specs.Owing.{owing}
 use Rattle.run_steps.proofs.Owing.{comes_owing, done_owing, owing_closed}
@@ -70,7 +71,8 @@ use Rattle.area_runs.proofs.BasedReads.{laid_out}
 use Rattle.area_assignments.proofs.Emptying.{area_stands, names_area}
 use Rattle.locator_runs.specs.Pointers.{IsPointer}
 use Rattle.locator_runs.proofs.PointerMeaning.{put_is}
-use Rattle.locator_runs.proofs.PointerPoints.{PointerAt, name_length, own_base, pointed, pointed_among, pointed_services}
+use Rattle.locator_runs.proofs.PointerPoints.{PointerAt, name_length, own_base, pointed, pointed_among}
+use Rattle.locator_runs.proofs.PointerPoints.{pointed_services}
 use Rattle.locator_runs.proofs.PointerPoints.{pointed_stands, pointer_in, pointer_place}
 use Rattle.offset_runs.specs.OffsetPointers.{IsPointing, pointing}
 use Rattle.offset_runs.specs.Offsets.{Gives, offset_aims}
@@ -101,7 +103,8 @@ given_regs word area place b = (17, 14) ∷ (13, 0) ∷ (12, place) ∷ (11, are
 given_comes :
     {k : Block} {x a : Spot} {q : Point} {numbers : ℕ → ℕ} {i : ℕ} (is : IsPointer k x) (area : HasArea k a)
     (o : IsAmong k numbers q) (word c : ℕ) (f : Family) (h : frame_of k q) →
-    Linked k.call.surroundings.links k.call.code i (given_code (place_of k.environment a) (name_at_place k.environment x))
+    Linked k.call.surroundings.links k.call.code i (given_code (place_of k.environment a) (name_at_place
+    k.environment x))
     → ((b : Base) → IsIn k.call.surroundings q numbers i b (f b) × (value (f b).machine a0 ≡ word)) →
     Reach k.call.code c f (services_of q)
     (c + size_of (given_code (place_of k.environment a) (name_at_place k.environment x))) (services_of q)
@@ -180,7 +183,8 @@ into_answer {q = q} is area o u b m small' fits stands =
 into_reaches :
     {k : Block} {x a : Spot} {q : Point} {numbers : ℕ → ℕ} {i : ℕ} (is : IsPointer k x) (area : HasArea k a)
     (o : IsAmong k numbers q) (t : PointerAt k x is q) (u : Option ℕ) (c : ℕ) (f : Family) → IsOffset u →
-    Linked k.call.surroundings.links k.call.code i (into_code (place_of k.environment a) (name_at_place k.environment x))
+    Linked k.call.surroundings.links k.call.code i (into_code (place_of k.environment a) (name_at_place
+    k.environment x))
     → ((b : Base) → IsIn k.call.surroundings q numbers i b (f b) × (value (f b).machine a0 ≡ offset_word u)) →
     Reach k.call.code c f (services_of q)
     (c + size_of (into_code (place_of k.environment a) (name_at_place k.environment x)))

@@ -1,8 +1,8 @@
 -- A name that a service writes into the four words below the running frame, in which nothing waits.
-use Rattle.std.proofs.Common.{◌≡◌, ℕ, ◌+◌, ◌-◌, ◌*◌, ◌≤◌, ◌^◌, ◌<◌, List, [], ◌∷◌, length, None, refl, sym, ap, ◌∙◌, subst}
+use Rattle.std.proofs.Common.{◌≡◌, ℕ, ◌+◌, ◌-◌, ◌*◌, ◌≤◌, ◌^◌, ◌<◌, List, [], ◌∷◌, length, sym, ◌∙◌, subst}
 use Rattle.std.proofs.Common.{arith}
 use Rattle.std.proofs.lemmas.Int.{ints}
-use Rattle.std.specs.Prelude.{negsuc, pos}
+use Rattle.std.specs.Prelude.{negsuc}
 use Rattle.rv_meaning.specs.declared.instr.ImmediateOp.TheVariants as Imm
 use Rattle.rv_meaning.specs.declared.instr.Instr.{Instr}
 use Rattle.rv_meaning.specs.declared.instr.Instr.TheVariants as I
@@ -13,7 +13,7 @@ use Rattle.rv_meaning.specs.Words.{sum, word}
 use Rattle.pli_typing.specs.Signatures.{Pointer}
 use Rattle.pli_meaning.specs.BasicValues.{BasicPointer, Name}
 use Rattle.pli_meaning.specs.StorageState.{Activation}
-use Rattle.area_keeper.specs.KeptAreas.{part, with_part}
+use Rattle.area_keeper.specs.KeptAreas.{with_part}
 use Rattle.pli_serving.specs.Bytes.{name_bytes}
 use Rattle.pli_serving.specs.ServiceState.{Services}
 use Rattle.pli_coding.specs.Assembly.{size_of}
@@ -68,7 +68,13 @@ name_stands w p φ φs a b m known frame free bytes stands =
           let above = laid.0.above in
           let words = free.words in
           subst (FramesStand w.parts b.at new p.state.activations) (sym free.newest)
-          (by p.state.activations frames (stored_beside at 16 xs m within) laid (omega (arith, covered, above, words, low))
+          (by p.state.activations frames (stored_beside at 16 xs m within) laid (omega (
+            arith,
+            covered,
+            above,
+            words,
+            low,
+          ))
           (omega (arith, low)));
     })
   where

@@ -8,7 +8,7 @@ use Rattle.pli_serving.specs.Bytes.{offset_word}
 use Rattle.pli_coding.specs.Assembly.{size_of}
 use Rattle.pli_coding.specs.Expressions.{offset_code}
 use Rattle.storage_relation.specs.Telling.{IsOffset}
-use Rattle.activation_relation.specs.Layers.{Layer, Point, services_of}
+use Rattle.activation_relation.specs.Layers.{Point, services_of}
 use Rattle.run_steps.specs.Items.{Linked}
 use Rattle.run_steps.specs.Reach.{Aims, Comes, Family, cost}
 use Rattle.block_runs.specs.Machines.{AreIn, limits_of}

@@ -30,8 +30,8 @@ pub fn pointer_from_offset()
     ensures { PointerFromOffset }
 {}
 
-/// The offset in an area of what a pointer variable points to is left in a register; where that doesn't live in the area,
-/// ERROR ends the run.
+/// The offset in an area of what a pointer variable points to is left in a register; where that doesn't live in the
+/// area, ERROR ends the run.
 pub fn address_given()
     ensures { AddressGiven }
 {}
