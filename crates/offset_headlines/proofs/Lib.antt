@@ -1,0 +1,4 @@
+pub mod Placed
+pub mod Known
+pub mod Rows
+pub mod Ends

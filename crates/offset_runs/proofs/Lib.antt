@@ -1,0 +1,17 @@
+pub mod OffsetMeaning
+pub mod OffsetCode
+pub mod OffsetPoints
+pub mod OffsetValues
+pub mod Comparisons
+pub mod AssignedPoints
+pub mod OffsetAssignments
+pub mod MemberOffsets
+pub mod MemberAssignments
+pub mod PointerCode
+pub mod PointerAssignments
+pub mod AddressCode
+pub mod AddressMeaning
+pub mod WaitingNames
+pub mod AddressAnswers
+pub mod AddressRuns
+pub mod Addresses

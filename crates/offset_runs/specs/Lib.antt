@@ -1,0 +1,4 @@
+pub mod Offsets
+pub mod OffsetAssignments
+pub mod OffsetPointers
+pub mod OffsetAddresses
