@@ -264,7 +264,7 @@ get_is input acts few b =
     record {
       act = record { line_fits = omega arith; acts = few };
       skip = tt;
-      lists = ((record { fixed = refl; text = refl; are = tt; some = refl }, read_formats input acts b), tt);
+      lists = ((record { fixed = refl; text = refl; some = refl }, read_formats input acts b), tt);
       registers = omega arith;
       held = omega arith;
       endfile = λ place. endfile_ends (within place (setting input acts 4)) (unread input acts 4 place few);

@@ -51,7 +51,7 @@ abbrev pub sum_get : Get
 sum_get =
     record {
       skip = None;
-      lists = record { first = whole read_spot; more = []; formats = of_width 4 3 } ∷ [];
+      lists = record { targets = whole read_spot ∷ []; formats = of_width 4 3 } ∷ [];
       line = 4;
     }
 

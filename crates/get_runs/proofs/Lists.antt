@@ -454,8 +454,8 @@ lists_come x a (y ∷ ys) listed targets acts' c wanted i j f {p} {numbers} o at
     (λ c1 f1 v1 height label s q. λ i0 f0 v0 from. jumps_repaid (x.debt + 2) from q)
     (λ c1 f1 v1 r s q. absurd q)
     (subst (λ ws. Comes code (c + 5) g1 (services_of q1) (items_aims u acts' i2 middle)
-    (P.items_got here ws ws (get_items (y.first ∷ y.more)) w.acts q1.state)) (sym list.is)
-    (items_come u are (y.first ∷ y.more) targets.0
+    (P.items_got here ws ws (get_items y.targets) w.acts q1.state)) (sym list.is)
+    (items_come u are y.targets targets.0
     (record { rest = whole_in u; point = q1; numbers = numbers; credits = c + 5; index = i1; family = g1 })
     acts' (2 + size_of rest) middle i2
     (record {
@@ -506,7 +506,7 @@ lists_come x a (y ∷ ys) listed targets acts' c wanted i j f {p} {numbers} o at
     begun' = edit_begun fs 0
 
     items : Code
-    items = items_code u (2 + size_of rest) (y.first ∷ y.more)
+    items = items_code u (2 + size_of rest) y.targets
 
     pair : Code
     pair = begun' ++ (items ++ edit_ended)
@@ -573,7 +573,7 @@ lists_come x a (y ∷ ys) listed targets acts' c wanted i j f {p} {numbers} o at
         }
 
     flow : Flow Bool
-    flow = P.items_got here whole whole (get_items (y.first ∷ y.more)) w.acts q1.state
+    flow = P.items_got here whole whole (get_items y.targets) w.acts q1.state
 
     next' : Bool → Meaning (Unit {0})
     next' lasted = choose lasted (P.pairs_got here (get_pairs ys)) (give tt)

@@ -1,5 +1,5 @@
 -- GET EDIT of numbers by F: the places in format lists, where ENDFILE is raised, and what the statement reads into.
-use Rattle.std.specs.Prelude.{ℕ, ℤ, ◌+◌, ◌^◌, ◌<◌, ◌≤◌, ◌≡◌, List, [], ◌∷◌, Option, Some, ⊤}
+use Rattle.std.specs.Prelude.{ℕ, ℤ, ◌+◌, ◌^◌, ◌<◌, ◌≤◌, ◌≡◌, List, [], ◌∷◌, Option, Some, true, false, ⊤}
 use Rattle.rv_meaning.specs.Machine.{value}
 use Rattle.rv_meaning.specs.Words.{word}
 use Rattle.pli_language.specs.declared.condition.Condition.TheVariants as C
@@ -11,7 +11,7 @@ use Rattle.pli_meaning.specs.Control.{Label}
 use Rattle.pli_meaning.specs.Executing.{assigned}
 use Rattle.pli_meaning.specs.Raising.{raised}
 use Rattle.pli_meaning.specs.StorageState.{State, force}
-use Rattle.pli_meaning.specs.Streaming.{FormatItem, target_type}
+use Rattle.pli_meaning.specs.Streaming.{FormatItem, format_items, target_type}
 use Rattle.pli_serving.specs.ServiceState.{EditPlace, Getting, Services}
 use Rattle.pli_coding.specs.Arithmetic as A
 use Rattle.pli_coding.specs.Assembly.{Code, size_of}
@@ -19,6 +19,7 @@ use Rattle.pli_coding.specs.Expressions.{type_in}
 use Rattle.pli_coding.specs.Registers.{a0, held_registers}
 use Rattle.pli_coding.specs.Statements.{stmt_code}
 use Rattle.pli_coding.specs.Storing.{word_stored}
+use Rattle.pli_coding.specs.Streams.{has_fixed, has_text}
 use Rattle.activation_relation.specs.Layers.{Point, services_of}
 use Rattle.activation_relation.specs.ServiceLaws.{IsSystem}
 use Rattle.run_steps.specs.Engine.{Base}
@@ -33,7 +34,7 @@ use Rattle.expression_runs.specs.Raises.{Routines}
 use Rattle.expression_runs.specs.Values.{HasRegisters, Setting, in_registers}
 use Rattle.expression_runs.specs.Variables.{IsNumber, Spot, whole}
 use Rattle.text_runs.specs.Texts.{ErrorComes}
-use Rattle.edit_runs.specs.Edits.{IsFixed, IsSkipped, KnowsFormats, within}
+use Rattle.edit_runs.specs.Edits.{IsSkipped, KnowsFormats, has_data, within}
 
 -- in a list of GET, of which so much is left
 abbrev pub getting : (whole rest : List FormatItem) → EditPlace
@@ -118,8 +119,7 @@ NumbersStored =
 
 -- one of its data lists, with the format list that it goes by
 pub record GetList : Type 0 where
-  pub first : Y.Reference
-  pub more : List Y.Reference
+  pub targets : List Y.Reference
   pub formats : T.Formats
 
 abbrev pub get_items : List Y.Reference → List Y.GetItem
@@ -128,7 +128,7 @@ get_items (r ∷ rs) = Y.GetScalar r ∷ get_items rs
 
 abbrev pub get_pairs : List GetList → List Y.GetPair
 get_pairs [] = []
-get_pairs (x ∷ xs) = record { items = get_items (x.first ∷ x.more); formats = x.formats } ∷ get_pairs xs
+get_pairs (x ∷ xs) = record { items = get_items x.targets; formats = x.formats } ∷ get_pairs xs
 
 -- lines may be passed over first; GET SKIP has no list
 pub record Get : Type 0 where
@@ -139,10 +139,16 @@ pub record Get : Type 0 where
 abbrev pub get_of : Get → Y.Stmt
 get_of x = Y.Get x.skip (get_pairs x.lists) x.line
 
--- the block knows the format lists, which are of F items
+-- a list of F items, one at least, and of control items
+pub record IsOfNumbers (fs : T.Formats) : Type 0 where
+  pub fixed : has_fixed fs ≡ true
+  pub text : has_text fs ≡ false
+  pub some : has_data (format_items fs) ≡ true
+
+-- the block knows the format lists
 abbrev pub AreListed : Block → List GetList → Type 0
 AreListed k [] = ⊤
-AreListed k (x ∷ xs) = (IsFixed x.formats × KnowsFormats k x.formats) × AreListed k xs
+AreListed k (x ∷ xs) = (IsOfNumbers x.formats × KnowsFormats k x.formats) × AreListed k xs
 
 -- where it stands while so many words are set aside, how many registers its targets need, and that one act pays for
 -- each of them; a field that is no number is ERROR, and where no character is left ENDFILE is raised
@@ -165,7 +171,7 @@ AreTargets s need (r ∷ rs) = ((place : EditPlace) → IsTarget (within place s
 
 abbrev pub ListsHaveTargets : Setting → (need : ℕ) → List GetList → Type 0
 ListsHaveTargets s need [] = ⊤
-ListsHaveTargets s need (x ∷ xs) = AreTargets s need (x.first ∷ x.more) × ListsHaveTargets s need xs
+ListsHaveTargets s need (x ∷ xs) = AreTargets s need x.targets × ListsHaveTargets s need xs
 
 abbrev pub GetsDo : Type 0
 GetsDo =
