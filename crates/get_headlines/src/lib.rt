@@ -1,0 +1,4 @@
+// Headlines of programs that read.
+#![tactic(auto)]
+
+pub mod laws;

@@ -1,0 +1,9 @@
+pub mod Reading
+pub mod Controls
+pub mod Items
+pub mod Ends
+pub mod Storing
+pub mod Fields
+pub mod Awaiting
+pub mod Lists
+pub mod Gets

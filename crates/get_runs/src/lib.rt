@@ -1,0 +1,4 @@
+// Statements that read, at the points of a block.
+#![tactic(auto)]
+
+pub mod laws;
