@@ -287,6 +287,7 @@ puts_known s k most b u variables arrays narrows parameters codes constants list
             arrays = λ may x is. array_placed k place x (bounds_known s x) (arrays may x is);
             narrows = λ may x is. narrow_placed k place x (type_known s x) (narrows may x is);
             parameters = λ x is. parameter_placed k place x (parameters x is);
+            pointers = λ may. absurd (cc may);
             located = λ may. absurd (cc may);
             codes = codes;
             functions = λ level n is. absurd (cc is);

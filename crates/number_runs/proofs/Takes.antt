@@ -19,7 +19,7 @@ use Rattle.pli_coding.specs.Temporaries.{argument_takes, arguments_take, bit_tak
 use Rattle.pli_coding.specs.Temporaries.{numbers_take, reference_takes, stored_takes, text_takes}
 use Rattle.program_runs.specs.Statements.{set_aside}
 use Rattle.expression_runs.specs.Variables.{Spot, whole}
-use Rattle.area_runs.specs.Based.{through}
+use Rattle.member_runs.specs.Members.{member_of}
 use Rattle.argument_runs.specs.Parameters.{parameter}
 use Rattle.counter_runs.specs.Counts.{count_of}
 use Rattle.number_runs.specs.Counting.{count_needs, count_sets, is_count, limit_needs, limit_sets, start_needs}
@@ -29,22 +29,24 @@ use Rattle.number_runs.specs.Numbers.{arguments_need, arguments_set, call_needs,
 use Rattle.number_runs.specs.Numbers.{is_element, is_fixed, is_given, is_number, is_reference, is_test}
 use Rattle.number_runs.specs.Numbers.{is_variable, may_calculate, number_needs, number_sets}
 use Rattle.number_runs.specs.Numbers.{numbers_need, numbers_set, reference_needs, reference_sets, test_needs, test_sets}
+use Rattle.number_runs.specs.Based.{is_word_type}
 use Rattle.number_runs.specs.Narrow.{has_precision, is_bit, is_number_type, is_text_type}
 use Rattle.number_runs.specs.Numbers.{is_narrow_with, is_wider, is_precision, is_text, text_needs, without_given}
-use Rattle.number_runs.specs.Numbers.{IsBare, without_located}
+use Rattle.number_runs.specs.Numbers.{IsBare, are_compared, compared_sets, name_sets, without_located}
 use Rattle.number_runs.specs.Puts.{are_pairs, are_put_items, is_put, is_put_item, is_put_list, is_skip, are_shown}
 use Rattle.number_runs.specs.Puts.{is_list}
 use Rattle.number_runs.specs.Puts.{put_item_needs, put_items_need, put_needs, without_calls}
 use Rattle.number_runs.specs.Statements.{are_statements, behind_stored, is_line, is_narrowed, is_statement, is_stored}
-use Rattle.number_runs.specs.Statements.{statement_needs}
+use Rattle.number_runs.specs.Statements.{is_pointed, pointer_sets, statement_needs}
 use Rattle.number_runs.specs.Statements.{statement_sets, statements_need, statements_set, stored_needs, stored_sets}
-use Rattle.number_runs.specs.Statements.{allocation_sets, freeing_sets, is_allocation, is_freeing}
+use Rattle.number_runs.specs.Statements.{allocation_sets, behind_sets, freeing_sets, is_allocation, is_freeing}
 use Rattle.number_runs.proofs.Arrays.{element_is}
 use Rattle.number_runs.proofs.Based.{allocation_is, freeing_is, through_is}
 use Rattle.number_runs.proofs.Counters.{IsCounting, counting_is, counting_of, statement_is}
 use Rattle.number_runs.proofs.Narrow.{narrow_with_is}
 use Rattle.number_runs.proofs.Unset.{number_unset, test_unset}
-use Rattle.number_runs.proofs.Variables.{behind_number, parameter_is, variable_is}
+use Rattle.number_runs.proofs.Pointed.{by_pointed, compared_by}
+use Rattle.number_runs.proofs.Variables.{behind_number, parameter_is, sets_number, variable_is}
 
 -- as many registers more as are needed, at least, and no words
 pub record Takes (need : ℕ) (t taken : Taken) : Type 0 where
@@ -152,8 +154,8 @@ parameter_takes : (t : Taken) (x : Spot) → Sets 0 0 t (reference_takes t (para
 parameter_takes t x = record { registers = omega arith; words = omega arith }
 
 -- the words of a name, and of the number of its signature
-through_takes : (t : Taken) (p n : Spot) → Sets 0 5 t (reference_takes t (through p n))
-through_takes t p n = record { registers = omega arith; words = omega arith }
+through_takes : (t : Taken) (p n : Spot) (m : ℕ) → Sets 0 5 t (reference_takes t (member_of p n m))
+through_takes t p n m = record { registers = omega arith; words = omega arith }
 
 scalar_takes :
     (s : Scope) (r : Y.Reference) (t : Taken) → (is_variable s r ≡ true) ⊎ (is_given s r ≡ true) →
@@ -241,6 +243,15 @@ given_are s number level (Y.ArgumentThen first rest) h =
     let taken = s.is_given_function (suc (argument_count rest)) level number in
     let a = and_parts (gives_lists s) (taken && are_arguments (without_located s) xs) h in
     (and_parts taken (are_arguments (without_located s) xs) a.1).1
+
+-- two names wait
+compared_taken :
+    (s : Scope) (equal : Bool) (left right : Y.Pointer) (t : Taken) → are_compared s left right ≡ true →
+    Sets 0 compared_sets t (bit_takes t (Y.PointersCompared equal left right))
+compared_taken s equal left right t h =
+    compared_by s (λ l r. Sets 0 compared_sets t (bit_takes t (Y.PointersCompared equal l r)))
+    (λ x. record { registers = omega arith; words = omega arith })
+    (λ x y. record { registers = omega arith; words = omega arith }) left right h
 
 -- a number takes no words where calls have no arguments
 unset_taken :
@@ -377,9 +388,9 @@ mutual
   reference_taken s (Y.Referring v Y.NotLocated part (Y.NumberThen first (Y.NumberThen second rest))) t h fits =
       absurd (cc h)
   reference_taken s (Y.Referring v (Y.LocatedBy p) part Y.NoNumber) t h fits =
-      let w = through_is s v p part h in
+      let w = through_is s is_word_type v p part h in
       subst (λ r. Sets (reference_needs r) (reference_sets r) t (reference_takes t r)) (sym w.is)
-      (through_takes t w.pointer w.based)
+      (through_takes t w.pointer w.based w.member)
   reference_taken s (Y.Referring v (Y.LocatedBy p) part (Y.NumberThen first rest)) t h fits = absurd (cc h)
 
   numbers_taken :
@@ -423,7 +434,7 @@ mutual
       let a = and_parts (is_text g left) (is_text g right) (and_parts s.texts both h).1 in
       two_texts_taken left right t (text_taken g left t (refl, refl) a.0 (omega (arith, fits)))
       (text_taken g right t (refl, refl) a.1 (omega (arith, fits)))
-  test_taken s (Y.PointersCompared equal left right) t h fits = absurd (cc h)
+  test_taken s (Y.PointersCompared equal left right) t h fits = compared_taken s equal left right t h
   test_taken s (Y.OffsetsCompared equal left right) t h fits = absurd (cc h)
 
   -- texts wait on their stack
@@ -493,12 +504,27 @@ assigned_taken words s target (Y.StoredBit x) h g fits = absurd (cc g)
 assigned_taken words s target (Y.StoredPointer x) h g fits = absurd (cc g)
 assigned_taken words s target (Y.StoredOffset x) h g fits = absurd (cc g)
 
+-- a name waits, and so does the one by which a member is reached
+pointed_taken :
+    (words : ℕ) (s : Scope) (target : Y.Reference) (x : Y.Pointer) → is_pointed s target x ≡ true →
+    Sets (max 0 (reference_needs target)) (max (pointer_sets x) (name_sets + reference_sets target)) (set_aside words)
+    (assigned_takes (set_aside words) target (Y.StoredPointer x))
+pointed_taken words s target x h =
+    by_pointed s
+    (λ r p. Sets (max 0 (reference_needs r)) (max (pointer_sets p) (name_sets + reference_sets r)) (set_aside words)
+    (assigned_takes (set_aside words) r (Y.StoredPointer p))) (record {
+      null = λ may y known. record { registers = omega arith; words = omega arith };
+      copied = λ may y z known other. record { registers = omega arith; words = omega arith };
+      followed = λ may y p n m known other member. record { registers = omega arith; words = omega arith };
+      linked = λ may c p n m y known member other. record { registers = omega arith; words = omega arith };
+    }) target x h
+
 -- a scalar of fewer bits takes nothing itself
 narrowed_taken :
     (words : ℕ) (s : Scope) (target : Y.Reference) (source : Y.Stored) → is_narrowed s target source ≡ true →
     max (stored_needs source) (behind_stored source (reference_needs target)) ≤ held_registers →
     Sets (max (stored_needs source) (behind_stored source (reference_needs target)))
-    (max (stored_sets source) (reference_sets target))
+    (max (stored_sets source) (behind_sets source (reference_sets target)))
     (set_aside words) (assigned_takes (set_aside words) target source)
 narrowed_taken words s target (Y.StoredNumber precision x) h fits =
     let narrow = is_narrow_with s (has_precision precision) target in
@@ -531,7 +557,7 @@ narrowed_taken words s target (Y.StoredText x) h fits =
     let u = a.words in
     let v = b.words in
     record { registers = omega (arith, p, q); words = omega (arith, u, v) }
-narrowed_taken words s target (Y.StoredPointer x) h fits = absurd (cc h)
+narrowed_taken words s target (Y.StoredPointer x) h fits = pointed_taken words s target x h
 narrowed_taken words s target (Y.StoredOffset x) h fits = absurd (cc h)
 
 assignment_taken :
@@ -539,14 +565,17 @@ assignment_taken :
     ((is_reference s target && is_stored s source) ≡ true) ⊎ (is_narrowed s target source ≡ true) →
     max (stored_needs source) (behind_stored source (reference_needs target)) ≤ held_registers →
     Sets (max (stored_needs source) (behind_stored source (reference_needs target)))
-    (max (stored_sets source) (reference_sets target))
+    (max (stored_sets source) (behind_sets source (reference_sets target)))
     (set_aside words) (assigned_takes (set_aside words) target source)
 assignment_taken words s target source (inl h) fits =
     let b = and_parts (is_reference s target) (is_stored s source) h in
     let n = behind_number s source (reference_needs target) b.1 in
-    subst (λ m. Sets (max (stored_needs source) m) (max (stored_sets source) (reference_sets target))
+    subst (λ i. Sets (max (stored_needs source) (behind_stored source (reference_needs target)))
+    (max (stored_sets source) i) (set_aside words) (assigned_takes (set_aside words) target source))
+    (sym (sets_number s source (reference_sets target) b.1))
+    (subst (λ m. Sets (max (stored_needs source) m) (max (stored_sets source) (reference_sets target))
     (set_aside words) (assigned_takes (set_aside words) target source)) (sym n)
-    (assigned_taken words s target source b.0 b.1 (omega (arith, fits, n)))
+    (assigned_taken words s target source b.0 b.1 (omega (arith, fits, n))))
 assignment_taken words s target source (inr h) fits = narrowed_taken words s target source h fits
 
 -- start, limit and step are evaluated while three words are set aside, and the variable is assigned while two are

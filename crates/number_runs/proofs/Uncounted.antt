@@ -16,12 +16,14 @@ use Rattle.number_runs.specs.Narrow.{has_precision, is_bit, is_text_type}
 use Rattle.number_runs.specs.Numbers.{Scope, are_arguments, gives_lists, is_fixed, is_number, is_reference, is_test}
 use Rattle.number_runs.specs.Numbers.{is_narrow_with, reference_sets, is_text, without_given, IsBare, without_located}
 use Rattle.number_runs.specs.Statements.{are_statements, is_line, is_statement, is_stored, statement_needs}
-use Rattle.number_runs.specs.Statements.{is_allocation, is_freeing}
+use Rattle.number_runs.specs.Statements.{behind_sets, is_allocation, is_freeing}
 use Rattle.number_runs.specs.Statements.{is_narrowed, statement_sets, statements_need, statements_set, stored_sets}
 use Rattle.number_runs.specs.Variables.{are_plain}
 use Rattle.number_runs.proofs.Takes.{Takes, statement_taken, statements_taken}
 use Rattle.number_runs.proofs.BlocksTaken.{block_sets, plain_known}
 use Rattle.number_runs.proofs.Based.{allocation_is, freeing_is}
+use Rattle.number_runs.proofs.Pointed.{pointed_may}
+use Rattle.number_runs.proofs.Variables.{sets_number}
 use Rattle.number_runs.proofs.Unset.{narrow_unset, number_unset, reference_unset, test_unset}
 
 stored_unset : (s : Scope) (x : Y.Stored) → IsBare s → is_stored s x ≡ true → stored_sets x ≡ 0
@@ -29,12 +31,12 @@ stored_unset s (Y.StoredNumber precision x) none h =
     number_unset s x none (and_parts (precision == 31) (is_number s x) h).1
 stored_unset s (Y.StoredText x) none h = refl
 stored_unset s (Y.StoredBit x) none h = absurd (cc h)
-stored_unset s (Y.StoredPointer x) none h = refl
+stored_unset s (Y.StoredPointer x) none h = absurd (cc h)
 stored_unset s (Y.StoredOffset x) none h = refl
 
 narrowed_unset :
     (s : Scope) (target : Y.Reference) (source : Y.Stored) → IsBare s → is_narrowed s target source ≡ true →
-    max (stored_sets source) (reference_sets target) ≡ 0
+    max (stored_sets source) (behind_sets source (reference_sets target)) ≡ 0
 narrowed_unset s target (Y.StoredNumber precision x) none h =
     let narrow = is_narrow_with s (has_precision precision) target in
     let a = and_parts s.overflows (narrow && is_number s x) h in
@@ -52,18 +54,20 @@ narrowed_unset s target (Y.StoredText x) none h =
     let one = is_text (without_given s) x in
     let n = narrow_unset s is_text_type target (and_parts narrow one (and_parts s.texts (narrow && one) h).1).0 in
     omega (arith, n)
-narrowed_unset s target (Y.StoredPointer x) none h = absurd (cc h)
+narrowed_unset s target (Y.StoredPointer x) none h =
+    absurd (cc (sym none.1 ∙ pointed_may s target x h))
 narrowed_unset s target (Y.StoredOffset x) none h = absurd (cc h)
 
 assigned_unset :
     (s : Scope) (target : Y.Reference) (source : Y.Stored) → IsBare s →
     ((is_reference s target && is_stored s source) ≡ true) ⊎ (is_narrowed s target source ≡ true) →
-    max (stored_sets source) (reference_sets target) ≡ 0
+    max (stored_sets source) (behind_sets source (reference_sets target)) ≡ 0
 assigned_unset s target source none (inl h) =
     let b = and_parts (is_reference s target) (is_stored s source) h in
     let m = reference_unset s target none b.0 in
     let n = stored_unset s source none b.1 in
-    omega (arith, m, n)
+    let e = sets_number s source (reference_sets target) b.1 in
+    omega (arith, m, n, e)
 assigned_unset s target source none (inr h) = narrowed_unset s target source none h
 
 mutual

@@ -46,14 +46,18 @@ use Rattle.list_calls.specs.Arguments.{EachGives, Way, arguments_of, setting_tol
 use Rattle.list_calls.specs.ListKnown.{AreStored, IsStored}
 use Rattle.list_calls.specs.Passed.{IsNamed}
 use Rattle.area_runs.specs.Allocations.{allocation}
-use Rattle.area_runs.specs.Based.{through}
-use Rattle.area_runs.specs.BasedAssignments as B
 use Rattle.area_assignments.specs.Copying.{copying}
 use Rattle.area_assignments.specs.Emptying.{emptying}
 use Rattle.area_freeings.specs.Freeing.{freeing}
+use Rattle.locator_runs.specs.Pointers.{IsPointer}
+use Rattle.member_runs.specs.MemberAssignments as M
+use Rattle.member_runs.specs.MemberPointers.{following, linking}
+use Rattle.member_runs.specs.Members.{member_of}
 use Rattle.scalar_runs.specs.Scalars.{IsScalar}
 use Rattle.number_runs.specs.Numbers.{Scope, bounds_known, is_array_known, is_known, is_narrow_known, is_received}
+use Rattle.number_runs.specs.Based.{is_pointer_type, is_word_type}
 use Rattle.number_runs.specs.Numbers.{gives_lists, type_known, is_area_known, is_based_known, is_pointer_known}
+use Rattle.number_runs.specs.Numbers.{is_member_known}
 use Rattle.number_runs.specs.Puts.{without_calls, is_list}
 
 -- ---- around expressions
@@ -163,9 +167,10 @@ pub record KnowsNumbers (s : Scope) (k : Setting) : Type 0 where
   pub functions : (level n : ℕ) → s.is_function level n ≡ true → L.Does k 0 (call_number level n)
   pub texts : s.texts ≡ true → KnowsTexts s k
   pub given : gives_lists s ≡ true → KnowsGiven s k
+  pub pointers : s.locates ≡ true → (x : Spot) → is_pointer_known s x ≡ true → IsPointer k.block x
   pub located :
-      s.locates ≡ true → (p n : Spot) → is_pointer_known s p ≡ true → is_based_known s n ≡ true →
-      L.Does k 0 (Y.NumberIn (through p n))
+      s.locates ≡ true → (p n : Spot) (m : ℕ) → is_pointer_known s p ≡ true → is_member_known s is_word_type n m ≡ true →
+      L.Does k 0 (Y.NumberIn (member_of p n m))
   pub codes : s.codes ≡ true → HasCode k.block
 
 -- so many words are left for lists behind those that are set aside
@@ -312,20 +317,36 @@ pub record KnowsAroundTexts (s : Scope) (k : Block) (own : List Label) (most : �
       (words : ℕ) → MayBeSet s words → (line : ℕ) (entries : List Entry) →
       KnowsWaiting s (setting_around words (waiting entries k) [] line most)
 
--- what is BASED is read and assigned by pointers, allocated and freed, and areas are assigned, as all of these mean,
--- where no words are set aside
+-- pointers are known, what is BASED is read and assigned by them, a member that is one is followed and linked, what is
+-- BASED is allocated and freed, and areas are assigned, as all of these mean, where no words are set aside
 pub record KnowsBased (s : Scope) (k : Block) (own : List Label) (most left' : ℕ) : Type 0 where
+  pub pointers : (x : Spot) → is_pointer_known s x ≡ true → IsPointer k x
   pub reads :
-      (labels : List Label) (line : ℕ) (p n : Spot) → Includes own labels → is_pointer_known s p ≡ true →
-      is_based_known s n ≡ true → L.Does (setting_around 0 k labels line most) 0 (Y.NumberIn (through p n))
+      (labels : List Label) (line : ℕ) (p n : Spot) (m : ℕ) → Includes own labels → is_pointer_known s p ≡ true →
+      is_member_known s is_word_type n m ≡ true →
+      L.Does (setting_around 0 k labels line most) 0 (Y.NumberIn (member_of p n m))
   pub assigned :
-      (labels : List Label) (p n : Spot) (source : Y.Number) (line index need : ℕ) → Includes own labels →
-      is_pointer_known s p ≡ true → is_based_known s n ≡ true → line < 2 ^ 31 → need ≤ k.registers →
-      1 ≤ k.registers →
+      (labels : List Label) (p n : Spot) (m : ℕ) (source : Y.Number) (line index need : ℕ) → Includes own labels →
+      is_pointer_known s p ≡ true → is_member_known s is_word_type n m ≡ true → line < 2 ^ 31 →
+      need ≤ k.registers → 1 ≤ k.registers →
       Linked k.call.surroundings.links k.call.code index
-      (stmt_code k.environment none_taken (B.assignment p n source line)) →
+      (stmt_code k.environment none_taken (M.assignment p n m source line)) →
       L.Does (setting_around 0 k labels line most) need source →
-      Does k labels (B.assignment p n source line) index left'
+      Does k labels (M.assignment p n m source line) index left'
+  pub followed :
+      (labels : List Label) (x p n : Spot) (m line index : ℕ) → Includes own labels → is_pointer_known s x ≡ true →
+      is_pointer_known s p ≡ true → is_member_known s is_pointer_type n m ≡ true → line < 2 ^ 31 →
+      Linked k.call.surroundings.links k.call.code index
+      (stmt_code k.environment none_taken (following x p n m line)) →
+      Does k labels (following x p n m line) index left'
+  -- the name waits in words of the newest layer
+  pub linked :
+      (labels : List Label) (p n : Spot) (m : ℕ) (y : Spot) (line index : ℕ) (layer : Layer) (others : List Layer) →
+      Includes own labels → is_pointer_known s p ≡ true → is_member_known s is_pointer_type n m ≡ true →
+      is_pointer_known s y ≡ true → line < 2 ^ 31 → k.first.control.layers ≡ layer ∷ others → 4 ≤ layer.words →
+      Linked k.call.surroundings.links k.call.code index
+      (stmt_code k.environment none_taken (linking p n m y line)) →
+      Does k labels (linking p n m y line) index left'
   pub allocated :
       (labels : List Label) (n p x : Spot) (line index : ℕ) → Includes own labels → is_pointer_known s p ≡ true →
       is_based_known s n ≡ true → is_area_known s x ≡ true → line < 2 ^ 31 →
