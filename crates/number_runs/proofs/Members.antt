@@ -9,6 +9,7 @@ use Rattle.pli_typing.specs.Signatures.{PlainClass, leaves_size}
 use Rattle.pli_typing.specs.TypedTree as Y
 use Rattle.pli_meaning.specs.DeclaredShapes.{leaf_of, shape_of}
 use Rattle.pli_meaning.specs.StorageState.{area_of_leaves}
+use Rattle.pli_serving.specs.InitialValues.{none_initial}
 use Rattle.pli_serving.specs.Templates.{leaves_of, put_before, shape_at, shape_with, template_of, whole_leaves}
 use Rattle.pli_coding.specs.SignatureTable.{signature_of, table_leaf}
 use Rattle.pli_coding.specs.StaticForms.{if_any, initial_leaves}
@@ -22,6 +23,7 @@ use Rattle.member_runs.specs.Members.{IsMember, structure_declared}
 use Rattle.number_runs.specs.Based.{are_members, are_some_members, has_member, is_based, is_one_leaf, is_pointer_type}
 use Rattle.number_runs.specs.Based.{is_word_type, passes}
 use Rattle.number_runs.specs.Variables.{variable_bytes}
+use Rattle.number_runs.proofs.Initial.{IsBare}
 use Rattle.number_runs.proofs.Based.{based_declared_is, leaf_is, pointer_type_is, word_type_is}
 
 -- ---- one member
@@ -93,6 +95,21 @@ based_begins ms ls h =
       none = ap if_any (members_begin ls 0 (some_members ls h));
       sound = members_sound ls (some_members ls h);
     }
+
+members_none :
+    (ls : List Y.Leaf) → are_members ls ≡ true →
+    none_initial (map (leaf_of []) ls) ≡ map (λ (l : Y.Leaf). l.initial) ls
+members_none [] h = refl
+members_none (l ∷ ls) h =
+    let b = both l ls h in
+    let rest = members_none ls b.1 in
+    by_member
+    (λ m. none_initial (map (leaf_of []) (m ∷ ls)) ≡ map (λ (n : Y.Leaf). n.initial) (m ∷ ls))
+    (ap (λ xs. [] ∷ xs) rest) (ap (λ xs. [] ∷ xs) rest) l b.0
+
+pub based_bare : (ms : List Y.Member) (ls : List Y.Leaf) → are_some_members ls ≡ true →
+    IsBare (structure_declared ms ls)
+based_bare ms ls h = (ap if_any (members_begin ls 0 (some_members ls h)), members_none ls (some_members ls h))
 
 -- ---- in the table
 

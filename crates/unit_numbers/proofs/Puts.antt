@@ -131,6 +131,7 @@ settled_writes s k most h =
             parameters = λ x is. parameter_placed k place x (h.parameters x is);
             texts = λ may. absurd (cc (sym h.wordless ∙ may));
             given = λ may. absurd (cc may);
+            pointers = λ may. absurd (cc may);
             located = λ may. absurd (cc may);
             codes = λ may. h.code;
             functions = λ level n is. absurd (cc is);

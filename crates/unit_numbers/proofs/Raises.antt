@@ -381,6 +381,7 @@ free_puts once {program} m h ih more blocks c o os a each above =
             parameters = λ x is. absurd (cc is);
             texts = λ may'. absurd (cc may');
             given = λ may'. absurd (cc may');
+            pointers = λ may'. absurd (cc may');
             located = λ may'. absurd (cc may');
             codes = λ may'. a'.code;
             functions = λ level n is. absurd (cc is);
