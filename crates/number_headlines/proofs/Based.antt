@@ -13,12 +13,16 @@ use Rattle.pli_coding.specs.Environments.{Environment}
 use Rattle.pli_coding.specs.Locating.{table_number}
 use Rattle.activation_relation.specs.Layers.{Layer}
 use Rattle.program_places.specs.Programs.{environment_for}
+use Rattle.pli_serving.specs.ServiceState.{EditPlace}
 use Rattle.program_runs.specs.Calls.{left_over}
+use Rattle.program_runs.specs.Statements.{Block}
 use Rattle.expression_runs.specs.Assignments.{setting_around}
 use Rattle.expression_runs.specs.Variables.{Spot}
 use Rattle.area_runs.specs.Based.{Ends, based_of}
 use Rattle.area_assignments.proofs.Copying.{copy_does}
 use Rattle.area_assignments.proofs.Emptying.{empty_does}
+use Rattle.edit_runs.specs.Edits.{placing, within}
+use Rattle.edit_runs.proofs.Places.{begun_placed}
 use Rattle.locator_runs.specs.Pointers.{IsPointer}
 use Rattle.member_runs.specs.Members.{IsMember, IsStructure, structure_declared}
 use Rattle.member_runs.proofs.FollowStatements.{follow_does}
@@ -28,7 +32,7 @@ use Rattle.member_runs.proofs.MemberReads.{member_does}
 use Rattle.member_runs.proofs.NewStatements.{allocate_does}
 use Rattle.member_freeings.proofs.Freeing.{free_does}
 use Rattle.number_runs.specs.Based.{has_member_if, is_based, is_based_if, is_pointer_type, is_word_type}
-use Rattle.number_runs.specs.Knowledge.{IsUnraised, KnowsBased}
+use Rattle.number_runs.specs.Knowledge.{IsUnraised, KnowsBased, KnowsPlaced}
 use Rattle.number_runs.specs.Numbers.{is_based_known, is_pointer_known}
 use Rattle.number_runs.specs.Statements.{statements_set}
 use Rattle.number_runs.specs.Variables.{AreTabled, IsTabled}
@@ -127,6 +131,64 @@ ends_at :
     Ends (setting_around 0 (block_of_run program input acts valued more a) labels line (most_for program))
 ends_at m input acts valued more a u labels line =
     record { routines = u.routines; raises = u.place; error = u.error; acts = u.acts; most = u.few }
+
+-- all of this is so while a place in a format list is in use
+pointer_placed : (k : Block) (place : EditPlace) (x : Spot) → IsPointer k x → IsPointer (placing place k) x
+pointer_placed k place x is =
+    let h = is.known in
+    record {
+      begun = begun_placed k place is.begun;
+      known = record {
+        declared = h.declared;
+        serial = h.serial;
+        binding = h.binding;
+        living = h.living;
+        lives = h.lives;
+        shape = h.shape;
+        base = h.base;
+        frame = h.frame;
+        at = h.at;
+        low = h.low;
+        inside = h.inside;
+      };
+      own = is.own;
+    }
+
+structure_placed :
+    (k : Block) (place : EditPlace) (p n : Spot) (ms : List Y.Member) (ls : List Y.Leaf) → IsStructure k p n ms ls →
+    IsStructure (placing place k) p n ms ls
+structure_placed k place p n ms ls is =
+    record {
+      pointer = pointer_placed k place p is.pointer;
+      declared = is.declared;
+      meant = is.meant;
+      plain = is.plain;
+      signature = is.signature;
+      table = is.table;
+      number = is.number;
+      numbered = is.numbered;
+      low = is.low;
+    }
+
+pub placed_known :
+    {program : Y.Program} (m : Main program) (input : List ℕ) (acts : ℕ) (valued : Bool) (more : ℕ) (a : Running)
+    (blocks : ℕ) → IsEntered m input acts valued more a blocks →
+    IsUnraised (block_of_run program input acts valued more a) (most_for program) →
+    KnowsPlaced (scope_of program m.called a.head a.body) (block_of_run program input acts valued more a)
+    (most_for program)
+placed_known {program} m input acts valued more a blocks e u =
+    let k = block_of_run program input acts valued more a in
+    record {
+      pointers = λ place x known.
+          pointer_placed k place x (points m input acts valued more a blocks e x known);
+      reads = λ words place labels line p n i known declared.
+          let f = found_number i (declared_variable program (based_of n)) declared in
+          let d = f.all.declared in
+          member_does (within place (setting_around words k labels line (most_for program))) p n d.members d.leaves i
+          (structure_placed k place p n d.members d.leaves
+          (leads_to m input acts valued more a blocks e p n known f.all)) f.member
+          (record { routines = u.routines; raises = u.place; error = u.error; acts = u.acts; most = u.few }) refl;
+    }
 
 -- the newest layer is the one that is known
 layer_same :

@@ -36,6 +36,7 @@ pub mod SumRows
 pub mod GatheredRows
 pub mod TextRows
 pub mod AreaRows
+pub mod ChainRows
 pub mod PowerRows
 pub mod InitialRows
 pub mod EuclidRows

@@ -25,7 +25,8 @@ use Rattle.number_runs.proofs.Declared.{of_any, of_declared}
 use Rattle.scalar_runs.specs.Scalars.{scalar_declared}
 use Rattle.number_runs.proofs.Narrow.{by_narrow}
 use Rattle.number_runs.proofs.Variables.{parameter_declared_is}
-use Rattle.number_runs.proofs.Takes.{Sets, sets_behind, statements_taken, takes_none}
+use Rattle.number_runs.proofs.Taking.{Sets, sets_behind, takes_none}
+use Rattle.number_runs.proofs.Takes.{statements_taken}
 
 text_takes_none :
     (varying : Bool) (n : ℕ) → 0 < n → n ≤ most_text →

@@ -12,6 +12,7 @@ pub mod AreaKnown
 pub mod Pointed
 pub mod Members
 pub mod Unset
+pub mod Taking
 pub mod Takes
 pub mod BlocksTaken
 pub mod Waiting

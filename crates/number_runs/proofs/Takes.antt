@@ -1,6 +1,5 @@
 -- What the temporaries of the class take: as many registers as its expressions need, and the words of the frame that
 -- loops and lists of arguments set aside.
--- as many registers more as are needed, at least, and no words
 use Rattle.std.proofs.Common.{◌≡◌, ◌⊎◌, inl, inr, ℕ, suc, ◌+◌, ◌<◌, ◌≤◌, List, [], ◌∷◌, ◌++◌, true, refl, sym}
 use Rattle.std.proofs.Common.{ap, subst, arith, None, Option, Some}
 use Rattle.std.specs.Prelude.{◌&&◌, ◌||◌, ◌==◌, Bool, max, if◌then◌else◌}
@@ -35,7 +34,8 @@ use Rattle.number_runs.specs.Numbers.{is_narrow_with, is_wider, is_precision, is
 use Rattle.number_runs.specs.Numbers.{IsBare, are_compared, compared_sets, name_sets, without_located}
 use Rattle.number_runs.specs.Puts.{are_pairs, are_put_items, is_put, is_put_item, is_put_list, is_skip, are_shown}
 use Rattle.number_runs.specs.Puts.{is_list}
-use Rattle.number_runs.specs.Puts.{put_item_needs, put_items_need, put_needs, without_calls}
+use Rattle.number_runs.specs.Puts.{put_item_needs, put_item_sets, put_items_need, put_items_set, put_needs, put_sets}
+use Rattle.number_runs.specs.Puts.{without_calls, without_functions}
 use Rattle.number_runs.specs.Statements.{are_statements, behind_stored, is_line, is_narrowed, is_statement, is_stored}
 use Rattle.number_runs.specs.Statements.{is_pointed, pointer_sets, statement_needs}
 use Rattle.number_runs.specs.Statements.{statement_sets, statements_need, statements_set, stored_needs, stored_sets}
@@ -46,161 +46,10 @@ use Rattle.number_runs.proofs.Counters.{IsCounting, counting_is, counting_of, st
 use Rattle.number_runs.proofs.Narrow.{narrow_with_is}
 use Rattle.number_runs.proofs.Unset.{number_unset, test_unset}
 use Rattle.number_runs.proofs.Pointed.{by_pointed, compared_by}
-use Rattle.number_runs.proofs.Variables.{behind_number, parameter_is, sets_number, variable_is}
-
--- as many registers more as are needed, at least, and no words
-pub record Takes (need : ℕ) (t taken : Taken) : Type 0 where
-  pub registers : t.registers + need ≤ taken.registers
-  pub words : taken.words ≡ t.words
-
--- or so many words
-pub record Sets (need sets : ℕ) (t taken : Taken) : Type 0 where
-  pub registers : t.registers + need ≤ taken.registers
-  pub words : taken.words ≡ t.words + sets
-
-abbrev one_more : Taken → Taken
-one_more t = record t { registers = t.registers + 1 }
-
-next_number : (t : Taken) → t.registers < held_registers → with_number t ≡ one_more t
-next_number t less =
-    ap (λ q. if q then one_more t else with_words 1 t) (lt-ltb t.registers held_registers less)
-
-pub takes_none : (t : Taken) → Takes 0 t t
-takes_none t = record { registers = omega arith; words = refl }
-
-takes_either : (m n : ℕ) (t a b : Taken) → Takes m t a → Takes n t b → Takes (max m n) t (most_taken a b)
-takes_either m n t a b x y =
-    let p = x.registers in
-    let q = y.registers in
-    let u = x.words in
-    let v = y.words in
-    record { registers = omega (arith, p, q); words = omega (arith, u, v) }
-
--- with one number more that waits
-takes_signed : (n : ℕ) (t a : Taken) → t.registers < held_registers → Takes n t a →
-    Takes (max n 1) t (most_taken (with_number t) a)
-takes_signed n t a less x =
-    let p = x.registers in
-    let u = x.words in
-    subst (λ t'. Takes (max n 1) t (most_taken t' a)) (sym (next_number t less))
-    (record { registers = omega (arith, p); words = omega (arith, u) })
-
--- behind one number that waits
-takes_next :
-    (q : ℕ) (t : Taken) (take : Taken → Taken) → t.registers < held_registers →
-    Takes q (one_more t) (take (one_more t)) → Takes (suc q) t (take (with_number t))
-takes_next q t take less x =
-    let c = x.registers in
-    let u = x.words in
-    subst (λ t'. Takes (suc q) t (take t')) (sym (next_number t less))
-    (record { registers = omega (arith, c); words = omega (arith, u) })
-
-takes_of : (need sets : ℕ) (t taken : Taken) → sets ≡ 0 → Sets need sets t taken → Takes need t taken
-takes_of need sets t taken none x =
-    let p = x.registers in
-    let u = x.words in
-    record { registers = omega (arith, p); words = omega (arith, u, none) }
-
-sets_none : (t : Taken) → Sets 0 0 t t
-sets_none t = record { registers = omega arith; words = omega arith }
-
-sets_no_words : (need : ℕ) (t taken : Taken) → Takes need t taken → Sets need 0 t taken
-sets_no_words need t taken x =
-    let p = x.registers in
-    let u = x.words in
-    record { registers = omega (arith, p); words = omega (arith, u) }
-
-sets_either :
-    (m n p q : ℕ) (t a b : Taken) → Sets m p t a → Sets n q t b → Sets (max m n) (max p q) t (most_taken a b)
-sets_either m n p q t a b x y =
-    let c = x.registers in
-    let d = y.registers in
-    let u = x.words in
-    let v = y.words in
-    record { registers = omega (arith, c, d); words = omega (arith, u, v) }
-
--- behind what takes no words
-pub sets_behind : (m n q : ℕ) (t a b : Taken) → Takes m t a → Sets n q t b → Sets (max m n) q t (most_taken a b)
-sets_behind m n q t a b x y =
-    let c = x.registers in
-    let d = y.registers in
-    let u = x.words in
-    let v = y.words in
-    record { registers = omega (arith, c, d); words = omega (arith, u, v) }
-
--- one value waits while another is computed
-sets_both :
-    (m n p q : ℕ) (t a b : Taken) → Sets m p t a → Sets n q (one_more t) b →
-    Sets (max m (suc n)) (max p q) t (most_taken a b)
-sets_both m n p q t a b x y =
-    let c = x.registers in
-    let d = y.registers in
-    let u = x.words in
-    let v = y.words in
-    record { registers = omega (arith, c, d); words = omega (arith, u, v) }
-
-sets_signed : (n p : ℕ) (t a : Taken) → t.registers < held_registers → Sets n p t a →
-    Sets (max n 1) p t (most_taken (with_number t) a)
-sets_signed n p t a less x =
-    let c = x.registers in
-    let u = x.words in
-    subst (λ t'. Sets (max n 1) p t (most_taken t' a)) (sym (next_number t less))
-    (record { registers = omega (arith, c); words = omega (arith, u) })
-
-whole_takes : (t : Taken) (x : Spot) → Sets 0 0 t (reference_takes t (whole x))
-whole_takes t x = record { registers = omega arith; words = omega arith }
-
-parameter_takes : (t : Taken) (x : Spot) → Sets 0 0 t (reference_takes t (parameter x))
-parameter_takes t x = record { registers = omega arith; words = omega arith }
-
--- the words of a name, and of the number of its signature
-through_takes : (t : Taken) (p n : Spot) (m : ℕ) → Sets 0 5 t (reference_takes t (member_of p n m))
-through_takes t p n m = record { registers = omega arith; words = omega arith }
-
-scalar_takes :
-    (s : Scope) (r : Y.Reference) (t : Taken) → (is_variable s r ≡ true) ⊎ (is_given s r ≡ true) →
-    Sets 0 0 t (reference_takes t r)
-scalar_takes s r t (inl h) =
-    let v = variable_is s r h in
-    subst (λ q. Sets 0 0 t (reference_takes t q)) (sym v.is) (whole_takes t v.spot)
-scalar_takes s r t (inr h) =
-    let v = parameter_is s r h in
-    subst (λ q. Sets 0 0 t (reference_takes t q)) (sym v.is) (parameter_takes t v.spot)
-
--- a subscript is computed, and waits
-subscript_takes : (n p : ℕ) (t a : Taken) → t.registers < held_registers → Sets n p t a →
-    Sets (max n 1) (max p 0) t (most_taken t (most_taken a (with_number t)))
-subscript_takes n p t a less x =
-    let c = x.registers in
-    let u = x.words in
-    subst (λ t'. Sets (max n 1) (max p 0) t (most_taken t (most_taken a t'))) (sym (next_number t less))
-    (record { registers = omega (arith, c); words = omega (arith, u) })
-
--- where nothing is located
-unlocated_takes : (n p : ℕ) (t a : Taken) → Sets n p t a → Sets n (max 0 p) t a
-unlocated_takes n p t a x =
-    let u = x.words in
-    record { registers = x.registers; words = omega (arith, u) }
-
--- behind the words of a list
-list_takes :
-    (n p q : ℕ) (t a : Taken) → Sets n p (with_words q t) a → Sets n (q + p) t a
-list_takes n p q t a x =
-    let c = x.registers in
-    let u = x.words in
-    record { registers = omega (arith, c); words = omega (arith, u) }
-
-abbrev Fits : (t : Taken) → (need : ℕ) → Type 0
-Fits t need = t.registers + need ≤ held_registers
-
--- a value waits while another is computed with what is taken then
-sets_two :
-    (m n p q : ℕ) (t a : Taken) (take : Taken → Taken) → Fits t (max m (suc n)) → Sets m p t a →
-    Sets n q (one_more t) (take (one_more t)) →
-    Sets (max m (suc n)) (max p q) t (most_taken a (take (with_number t)))
-sets_two m n p q t a take fits x y =
-    subst (λ t'. Sets (max m (suc n)) (max p q) t (most_taken a (take t')))
-    (sym (next_number t (omega (arith, fits)))) (sets_both m n p q t a (take (one_more t)) x y)
+use Rattle.number_runs.proofs.Taking.{Fits, Sets, Takes, list_takes, one_more, scalar_takes, sets_either, sets_no_words}
+use Rattle.number_runs.proofs.Taking.{sets_none, sets_signed, sets_two, subscript_takes, takes_either, takes_next}
+use Rattle.number_runs.proofs.Taking.{takes_none, takes_of, takes_signed, through_takes, unlocated_takes, whole_takes}
+use Rattle.number_runs.proofs.Variables.{behind_number, sets_number}
 
 pub narrow_taken :
     (s : Scope) (test : Y.LeafType → Bool) (r : Y.Reference) (t : Taken) → is_narrow_with s test r ≡ true →
@@ -635,15 +484,14 @@ count_taken words s {v = v} {o = o} {n = n} x body line fits inner =
 
 put_item_taken :
     (words : ℕ) (s : Scope) (i : Y.PutItem) → is_put_item s i ≡ true → put_item_needs i ≤ held_registers →
-    Takes (put_item_needs i) (set_aside words) (put_item_takes (set_aside words) i)
+    Sets (put_item_needs i) (put_item_sets i) (set_aside words) (put_item_takes (set_aside words) i)
 put_item_taken words s (Y.PutValue (Y.NumberValue precision x)) h fits =
-    takes_signed (number_needs x) (set_aside words) (number_takes (set_aside words) x) (omega arith)
-    (takes_of (number_needs x) (number_sets x) (set_aside words) (number_takes (set_aside words) x)
-    (number_unset (without_calls s) x (refl, refl) h)
-    (number_taken (without_calls s) x (set_aside words) h (omega (arith, fits))))
+    sets_signed (number_needs x) (number_sets x) (set_aside words) (number_takes (set_aside words) x) (omega arith)
+    (number_taken (without_functions s) x (set_aside words) h (omega (arith, fits)))
 put_item_taken words s (Y.PutValue (Y.TextValue x)) h fits =
-    text_taken (without_calls s) x (set_aside words) (refl, refl) (and_parts s.texts (is_text (without_calls s) x) h).1
-    (omega (arith, fits))
+    sets_no_words (text_needs x) (set_aside words) (text_takes (set_aside words) x)
+    (text_taken (without_calls s) x (set_aside words) (refl, refl) (and_parts s.texts (is_text (without_calls s) x) h).1
+    (omega (arith, fits)))
 put_item_taken words s (Y.PutValue (Y.BitValue x)) h fits = absurd (cc h)
 put_item_taken words s (Y.PutValue (Y.PointerValue x)) h fits = absurd (cc h)
 put_item_taken words s (Y.PutValue (Y.OffsetValue area x)) h fits = absurd (cc h)
@@ -652,36 +500,39 @@ put_item_taken words s (Y.PutAggregate r) h fits = absurd (cc h)
 
 put_items_taken :
     (words : ℕ) (s : Scope) (is : List Y.PutItem) → are_put_items s is ≡ true → put_items_need is ≤ held_registers →
-    Takes (put_items_need is) (set_aside words) (put_items_take (set_aside words) is)
-put_items_taken words s [] h fits = takes_none (set_aside words)
+    Sets (put_items_need is) (put_items_set is) (set_aside words) (put_items_take (set_aside words) is)
+put_items_taken words s [] h fits = sets_none (set_aside words)
 put_items_taken words s (i ∷ is) h fits =
     let a = and_parts (is_put_item s i) (are_put_items s is) h in
-    takes_either (put_item_needs i) (put_items_need is) (set_aside words) (put_item_takes (set_aside words) i)
+    sets_either (put_item_needs i) (put_items_need is) (put_item_sets i) (put_items_set is) (set_aside words)
+    (put_item_takes (set_aside words) i)
     (put_items_take (set_aside words) is) (put_item_taken words s i a.0 (omega (arith, fits)))
     (put_items_taken words s is a.1 (omega (arith, fits)))
 
 put_list_taken :
     (words : ℕ) (s : Scope) (is : List Y.PutItem) → is_put_list s is ≡ true → put_items_need is ≤ held_registers →
-    Takes (put_items_need is) (set_aside words) (put_items_take (set_aside words) is)
+    Sets (put_items_need is) (put_items_set is) (set_aside words) (put_items_take (set_aside words) is)
 put_list_taken words s [] h fits = absurd (cc h)
 put_list_taken words s (i ∷ is) h fits = put_items_taken words s (i ∷ is) h fits
 
 pairs_taken :
     (words : ℕ) (s : Scope) (ps : List Y.PutPair) → are_pairs s ps ≡ true → put_needs ps ≤ held_registers →
-    Takes (put_needs ps) (set_aside words) (put_takes (set_aside words) ps)
-pairs_taken words s [] h fits = takes_none (set_aside words)
+    Sets (put_needs ps) (put_sets ps) (set_aside words) (put_takes (set_aside words) ps)
+pairs_taken words s [] h fits = sets_none (set_aside words)
 pairs_taken words s (p ∷ ps) h fits =
     let by = is_list p.formats && are_shown p.formats p.items in
     let a = and_parts (is_put_list s p.items && by) (are_pairs s ps) h in
     let b = and_parts (is_put_list s p.items) by a.0 in
-    takes_either (put_items_need p.items) (put_needs ps) (set_aside words) (put_items_take (set_aside words) p.items)
+    sets_either (put_items_need p.items) (put_needs ps) (put_items_set p.items) (put_sets ps) (set_aside words)
+    (put_items_take (set_aside words) p.items)
     (put_takes (set_aside words) ps) (put_list_taken words s p.items b.0 (omega (arith, fits)))
     (pairs_taken words s ps a.1 (omega (arith, fits)))
 
 put_taken :
     (words : ℕ) (s : Scope) (skip : Option ℕ) (pairs : List Y.PutPair) → is_put s skip pairs ≡ true →
-    put_needs pairs ≤ held_registers → Takes (put_needs pairs) (set_aside words) (put_takes (set_aside words) pairs)
-put_taken words s skip [] h fits = takes_none (set_aside words)
+    put_needs pairs ≤ held_registers →
+    Sets (put_needs pairs) (put_sets pairs) (set_aside words) (put_takes (set_aside words) pairs)
+put_taken words s skip [] h fits = sets_none (set_aside words)
 put_taken words s skip (p ∷ ps) h fits =
     let a = and_parts (is_skip skip) (s.puts && are_pairs s (p ∷ ps)) h in
     pairs_taken words s (p ∷ ps) (and_parts s.puts (are_pairs s (p ∷ ps)) a.1).1 fits
@@ -797,8 +648,7 @@ mutual
       freeing_taken words s all (and_parts (is_line line) (is_freeing s all) h).1
   statement_taken words s valued labels (Y.Get skip pairs line) h fits = absurd (cc h)
   statement_taken words s valued labels (Y.Put skip pairs line) h fits =
-      sets_no_words (put_needs pairs) (set_aside words) (put_takes (set_aside words) pairs)
-      (put_taken words s skip pairs (and_parts (is_line line) (is_put s skip pairs) h).1 fits)
+      put_taken words s skip pairs (and_parts (is_line line) (is_put s skip pairs) h).1 fits
 
   pub statements_taken :
       (words : ℕ) (s : Scope) (valued : Bool) (labels : List Label) (xs : Y.Stmts) → are_statements s valued labels xs

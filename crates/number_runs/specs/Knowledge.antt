@@ -35,7 +35,7 @@ use Rattle.operator_runs.specs.Divisors.{ZeroDivideComes}
 use Rattle.text_runs.specs.Texts.{ErrorComes}
 use Rattle.text_runs.specs.Waiting.{over}
 use Rattle.text_values.specs.Variables.{KnowsText}
-use Rattle.edit_runs.specs.Edits.{KnowsFormats, within}
+use Rattle.edit_runs.specs.Edits.{KnowsFormats, placing, within}
 use Rattle.program_places.specs.Laws.{IsLabel}
 use Rattle.program_places.specs.Placed.{Placed}
 use Rattle.counter_runs.specs.Words.{telling}
@@ -57,7 +57,7 @@ use Rattle.scalar_runs.specs.Scalars.{IsScalar}
 use Rattle.number_runs.specs.Numbers.{Scope, bounds_known, is_array_known, is_known, is_narrow_known, is_received}
 use Rattle.number_runs.specs.Based.{is_pointer_type, is_word_type}
 use Rattle.number_runs.specs.Numbers.{gives_lists, type_known, is_area_known, is_based_known, is_pointer_known}
-use Rattle.number_runs.specs.Numbers.{is_member_known}
+use Rattle.number_runs.specs.Numbers.{is_member_known, without_located}
 use Rattle.number_runs.specs.Puts.{without_calls, is_list}
 
 -- ---- around expressions
@@ -247,6 +247,14 @@ given_statement level n line ways = Y.CallProcedure (given_call level n ways) li
 abbrev pub MayBeSet : Scope → (words : ℕ) → Type 0
 MayBeSet s words = (words ≤ most_set) × (s.counts ≡ false → words ≡ 0)
 
+-- pointers are known while a place in a format list is in use, and members of what they lead to are read there
+pub record KnowsPlaced (s : Scope) (k : Block) (most : ℕ) : Type 0 where
+  pub pointers : (place : EditPlace) (x : Spot) → is_pointer_known s x ≡ true → IsPointer (placing place k) x
+  pub reads :
+      (words : ℕ) (place : EditPlace) (labels : List Label) (line : ℕ) (p n : Spot) (m : ℕ) →
+      is_pointer_known s p ≡ true → is_member_known s is_word_type n m ≡ true →
+      L.Does (within place (setting_around words k labels line most)) 0 (Y.NumberIn (member_of p n m))
+
 -- around what is written as much is known while a place in a format list is in use, an ERROR there comes to what it
 -- means, and the lists are known
 pub record KnowsPuts (s : Scope) (k : Block) (most : ℕ) : Type 0 where
@@ -257,6 +265,7 @@ pub record KnowsPuts (s : Scope) (k : Block) (most : ℕ) : Type 0 where
       (words : ℕ) → MayBeSet s words → (place : EditPlace) (labels : List Label) (line : ℕ) →
       ErrorComes (List ℕ) (within place (setting_around words k labels line most))
   pub lists : KnowsLists k
+  pub located : s.locates ≡ true → KnowsPlaced s k most
 
 -- raises in its statements come to what they mean, also where a unit goes on at a label of the block's own list
 pub record KnowsRaises (s : Scope) (k : Block) (own : List Label) (most : ℕ) : Type 0 where
@@ -408,7 +417,9 @@ pub record KnowsLoops (s : Scope) (k : Block) (own : List Label) (most left' : �
   pub jumps : (waits : ℕ → Option ℕ) → KnowsJumps s (telling waits layer others k) own left'
   pub texts : (waits : ℕ → Option ℕ) → s.texts ≡ true → KnowsAroundTexts s (telling waits layer others k) own most
   pub signals : (waits : ℕ → Option ℕ) → KnowsSignals s (telling waits layer others k) own left'
-  pub puts : (waits : ℕ → Option ℕ) → s.puts ≡ true → KnowsPuts s (telling waits layer others k) most
+  -- there nothing that is BASED is written
+  pub puts :
+      (waits : ℕ → Option ℕ) → s.puts ≡ true → KnowsPuts (without_located s) (telling waits layer others k) most
 
 -- a block whose own list has these labels
 pub record IsReady (s : Scope) (valued : Bool) (k : Block) (labels : List Label) (most left' : ℕ) : Type 0 where

@@ -12,7 +12,7 @@ use Rattle.number_runs.specs.Numbers.{reference_needs, reference_sets, test_need
 use Rattle.number_runs.specs.Numbers.{without_given, is_area_known, is_automatic, is_based_variable, is_pointer_in}
 use Rattle.number_runs.specs.Numbers.{spot_of, without_located, is_followed, name_sets}
 use Rattle.number_runs.specs.Narrow.{has_precision, is_bit, is_text_type}
-use Rattle.number_runs.specs.Puts.{is_put, put_needs}
+use Rattle.number_runs.specs.Puts.{is_put, put_needs, put_sets}
 
 -- a line fits a register
 abbrev pub is_line : ℕ → Bool
@@ -179,6 +179,7 @@ abbrev mutual
   statement_sets (Y.ReturnValue type source line) = stored_sets source
   statement_sets (Y.Allocate all line) = allocation_sets
   statement_sets (Y.Free all line) = freeing_sets
+  statement_sets (Y.Put skip pairs line) = put_sets pairs
   statement_sets _ = 0
 
   pub statements_set : Y.Stmts → ℕ

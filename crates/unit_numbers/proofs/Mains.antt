@@ -43,7 +43,7 @@ use Rattle.number_runs.specs.Numbers.{Scope, bounds_known, has_none, is_array_kn
 use Rattle.number_runs.specs.Numbers.{is_narrow_known, type_known}
 use Rattle.number_runs.specs.Statements.{statements_need, statements_set}
 use Rattle.number_runs.specs.Variables.{HasWords, HaveRoom, IsOwnArray, IsOwnNarrow, IsOwnWord, bytes_of, words_in}
-use Rattle.number_runs.proofs.Takes.{Sets}
+use Rattle.number_runs.proofs.Taking.{Sets}
 use Rattle.number_runs.proofs.Words.{all_words, own_array, own_narrow, own_word, room_behind, room_fewer}
 use Rattle.number_headlines.specs.Programs.{are_all_plain, body_of, has_result, most_waiting, most_words}
 use Rattle.number_headlines.specs.Programs.{places_to}

@@ -40,7 +40,8 @@ use Rattle.block_headlines.proofs.Constants.{called_of_program}
 use Rattle.number_runs.specs.Numbers.{bounds_known, is_array_known, is_known, is_narrow_known, type_known}
 use Rattle.number_runs.proofs.Narrow.{outer_narrow}
 use Rattle.number_runs.specs.Statements.{statements_need, statements_set}
-use Rattle.number_runs.proofs.Takes.{Sets, statements_taken}
+use Rattle.number_runs.proofs.Taking.{Sets}
+use Rattle.number_runs.proofs.Takes.{statements_taken}
 use Rattle.number_headlines.proofs.Running.{free_among, table_later}
 use Rattle.number_headlines.proofs.Tables.{block_plain}
 use Rattle.unit_runs.specs.Establishing.{OnUnit, unit_index, unit_of}
