@@ -292,13 +292,7 @@ chain_sound = record {
   );
   labels = (
     tt,
-    (
-      tt,
-      (
-        (tt, (tt, (tt, (tt, (tt, (tt, tt)))))),
-        (tt, (tt, ((tt, (tt, (tt, (tt, (tt, tt))))), (tt, tt)))),
-      ),
-    ),
+    (tt, (tt, ((tt, (tt, (tt, (tt, (tt, tt))))), (tt, ((tt, (tt, (tt, (tt, tt)))), tt))))),
   );
   parameters = tt;
   apart = tt;
