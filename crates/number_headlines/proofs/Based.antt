@@ -33,7 +33,7 @@ use Rattle.member_runs.proofs.NewStatements.{allocate_does}
 use Rattle.member_freeings.proofs.Freeing.{free_does}
 use Rattle.number_runs.specs.Based.{has_member_if, is_based, is_based_if, is_pointer_type, is_word_type}
 use Rattle.number_runs.specs.Knowledge.{IsUnraised, KnowsBased, KnowsPlaced}
-use Rattle.number_runs.specs.Numbers.{is_based_known, is_pointer_known}
+use Rattle.number_runs.specs.Numbers.{is_pointer_known}
 use Rattle.number_runs.specs.Statements.{statements_set}
 use Rattle.number_runs.specs.Variables.{AreTabled, IsTabled}
 use Rattle.number_runs.proofs.Based.{based_declared_is, pointer_type_is, word_type_is}

@@ -29,9 +29,9 @@ use Rattle.scalar_runs.specs.Scalars.{scalar_leaf}
 use Rattle.area_runs.specs.Based.{based_of, pointer_declared}
 use Rattle.member_runs.specs.Members.{member_of, structure_declared}
 use Rattle.pli_headline.specs.Headline.{FitsMemory, parts}
-use Rattle.number_headlines.specs.ChainRows.{area_declared, area_spot, chain_block, chain_body, chain_formats, chain_main}
-use Rattle.number_headlines.specs.ChainRows.{chain_program, head_spot, next_member, node_leaves, node_members, node_spot}
-use Rattle.number_headlines.specs.ChainRows.{number_spot, pointer_spot, value_member}
+use Rattle.number_headlines.specs.ChainRows.{area_declared, area_spot, chain_block, chain_body, chain_formats}
+use Rattle.number_headlines.specs.ChainRows.{chain_main, chain_program, head_spot, next_member, node_leaves}
+use Rattle.number_headlines.specs.ChainRows.{node_members, node_spot, number_spot, pointer_spot, value_member}
 use Rattle.number_headlines.specs.Headlines.{IsNumberProgram}
 
 -- ---- it is well formed

@@ -1,5 +1,5 @@
--- A worked row: a program of the class that links three structures in an area to a list, walks it, writes what each has,
--- and frees it.
+-- A worked row: a program of the class that links three structures in an area to a list, walks it, writes what each
+-- has, and frees it.
 use Rattle.std.specs.Prelude.{ℕ, ◌≡◌, List, [], ◌∷◌, pos, None, Some, false}
 use Rattle.pli_language.specs.Tree as T
 use Rattle.pli_typing.specs.TypedTree as Y

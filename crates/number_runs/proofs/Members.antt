@@ -1,5 +1,5 @@
 -- The members of what is BASED, as the class admits them: what they take and what code and table make of them.
-use Rattle.std.proofs.Common.{◌≡◌, ◌⊎◌, inl, inr, ℕ, zero, suc, ◌+◌, ◌^◌, ◌<◌, List, [], ◌∷◌, length, None, Some}
+use Rattle.std.proofs.Common.{◌≡◌, ◌⊎◌, inl, inr, ℕ, zero, suc, ◌^◌, ◌<◌, List, [], ◌∷◌, length, None, Some}
 use Rattle.std.proofs.Common.{true, false, map, refl, sym, ap, ◌∙◌, subst, arith}
 use Rattle.std.proofs.Common.{◌≤◌, Option}
 use Rattle.std.specs.Prelude.{◌&&◌, ◌||◌, Bool, not, nat_lt, slice_get}
@@ -135,10 +135,12 @@ pub based_shaped :
 based_shaped ms ls h = ap (λ o. shape_with PlainClass None o) (members_shaped ls (some_members ls h))
 
 -- it keeps the rules of tables
-number_stands : (count place : ℕ) → stands count 0 place (table_shape (table_leaf (scalar_leaf (Y.FixedLeaf 31) []))) ≡ true
+number_stands :
+    (count place : ℕ) → stands count 0 place (table_shape (table_leaf (scalar_leaf (Y.FixedLeaf 31) []))) ≡ true
 number_stands count place = ap (λ q. (not q || true) && true) (eqb-other 0 (suc place) (λ e. omega (arith, e)))
 
-pointer_stands : (count place : ℕ) → stands count 0 place (table_shape (table_leaf (scalar_leaf Y.PointerLeaf []))) ≡ true
+pointer_stands :
+    (count place : ℕ) → stands count 0 place (table_shape (table_leaf (scalar_leaf Y.PointerLeaf []))) ≡ true
 pointer_stands count place = ap (λ q. (not q || false) && true) (eqb-other 0 (suc place) (λ e. omega (arith, e)))
 
 members_fit :

@@ -10,7 +10,8 @@ use Rattle.locator_runs.proofs.PointerTests.{both_test, null_tests}
 use Rattle.member_runs.specs.Members.{member_of}
 use Rattle.number_runs.specs.Based.{is_pointer_type}
 use Rattle.number_runs.specs.Knowledge.{KnowsNumbers}
-use Rattle.number_runs.specs.Numbers.{Scope, are_compared, is_followed, is_member_known, is_pointer_in, is_pointer_known}
+use Rattle.number_runs.specs.Numbers.{Scope, are_compared, is_followed, is_member_known, is_pointer_in}
+use Rattle.number_runs.specs.Numbers.{is_pointer_known}
 use Rattle.number_runs.specs.Statements.{is_pointed}
 use Rattle.number_runs.proofs.Based.{IsThrough, pointer_in, through_is}
 

@@ -1,9 +1,9 @@
 -- What the temporaries of the class take: as many registers as its expressions need, and the words of the frame that
 -- loops and lists of arguments set aside.
-use Rattle.std.proofs.Common.{◌≡◌, ◌⊎◌, inl, inr, ℕ, suc, ◌+◌, ◌<◌, ◌≤◌, List, [], ◌∷◌, ◌++◌, true, refl, sym}
+use Rattle.std.proofs.Common.{◌≡◌, ◌⊎◌, inl, inr, ℕ, suc, ◌+◌, ◌≤◌, List, [], ◌∷◌, ◌++◌, true, refl, sym}
 use Rattle.std.proofs.Common.{ap, subst, arith, None, Option, Some}
-use Rattle.std.specs.Prelude.{◌&&◌, ◌||◌, ◌==◌, Bool, max, if◌then◌else◌}
-use Rattle.std.proofs.lemmas.Bool.{and_parts, lt-ltb, or_cases}
+use Rattle.std.specs.Prelude.{◌&&◌, ◌||◌, ◌==◌, Bool, max}
+use Rattle.std.proofs.lemmas.Bool.{and_parts, or_cases}
 use Rattle.pli_typing.specs.TypedTree as Y
 use Rattle.pli_meaning.specs.Control.{Label}
 use Rattle.pli_meaning.specs.Executing.{labels_in}
@@ -18,7 +18,6 @@ use Rattle.pli_coding.specs.Temporaries.{argument_takes, arguments_take, bit_tak
 use Rattle.pli_coding.specs.Temporaries.{numbers_take, reference_takes, stored_takes, text_takes}
 use Rattle.program_runs.specs.Statements.{set_aside}
 use Rattle.expression_runs.specs.Variables.{Spot, whole}
-use Rattle.member_runs.specs.Members.{member_of}
 use Rattle.argument_runs.specs.Parameters.{parameter}
 use Rattle.counter_runs.specs.Counts.{count_of}
 use Rattle.number_runs.specs.Counting.{count_needs, count_sets, is_count, limit_needs, limit_sets, start_needs}
@@ -48,7 +47,7 @@ use Rattle.number_runs.proofs.Unset.{number_unset, test_unset}
 use Rattle.number_runs.proofs.Pointed.{by_pointed, compared_by}
 use Rattle.number_runs.proofs.Taking.{Fits, Sets, Takes, list_takes, one_more, scalar_takes, sets_either, sets_no_words}
 use Rattle.number_runs.proofs.Taking.{sets_none, sets_signed, sets_two, subscript_takes, takes_either, takes_next}
-use Rattle.number_runs.proofs.Taking.{takes_none, takes_of, takes_signed, through_takes, unlocated_takes, whole_takes}
+use Rattle.number_runs.proofs.Taking.{takes_none, takes_of, through_takes, unlocated_takes, whole_takes}
 use Rattle.number_runs.proofs.Variables.{behind_number, sets_number}
 
 pub narrow_taken :

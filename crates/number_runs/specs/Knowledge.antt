@@ -169,8 +169,8 @@ pub record KnowsNumbers (s : Scope) (k : Setting) : Type 0 where
   pub given : gives_lists s ≡ true → KnowsGiven s k
   pub pointers : s.locates ≡ true → (x : Spot) → is_pointer_known s x ≡ true → IsPointer k.block x
   pub located :
-      s.locates ≡ true → (p n : Spot) (m : ℕ) → is_pointer_known s p ≡ true → is_member_known s is_word_type n m ≡ true →
-      L.Does k 0 (Y.NumberIn (member_of p n m))
+      s.locates ≡ true → (p n : Spot) (m : ℕ) → is_pointer_known s p ≡ true →
+      is_member_known s is_word_type n m ≡ true → L.Does k 0 (Y.NumberIn (member_of p n m))
   pub codes : s.codes ≡ true → HasCode k.block
 
 -- so many words are left for lists behind those that are set aside

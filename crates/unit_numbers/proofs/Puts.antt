@@ -93,6 +93,8 @@ pub record IsSettled (s : Scope) (k : Block) (most : ℕ) : Type 0 where
   pub code : HasCode k
   -- without texts
   pub wordless : s.texts ≡ false
+  -- and what is BASED
+  pub unlocated : s.locates ≡ false
   pub lists : KnowsLists k
 
 -- there numbers may be written
@@ -145,4 +147,5 @@ settled_writes s k most h =
             most = omega (arith, few);
           });
       lists = h.lists;
+      located = λ may. absurd (cc (sym h.unlocated ∙ may));
     }
