@@ -30,6 +30,7 @@ use Rattle.member_runs.proofs.LinkStatements.{link_does}
 use Rattle.member_runs.proofs.MemberAssignments.{assign_does}
 use Rattle.member_runs.proofs.MemberReads.{member_does}
 use Rattle.member_runs.proofs.NewStatements.{allocate_does}
+use Rattle.member_runs.proofs.NullStatements.{null_does}
 use Rattle.member_freeings.proofs.Freeing.{free_does}
 use Rattle.number_runs.specs.Based.{has_member_if, is_based, is_based_if, is_pointer_type, is_word_type}
 use Rattle.number_runs.specs.Knowledge.{IsUnraised, KnowsBased, KnowsPlaced}
@@ -225,6 +226,25 @@ based_known {program} m input acts valued more a blocks few e u may =
             structure = leads_to m input acts valued more a blocks e p n known f.all;
             own = f.member;
             ends = ends_at m input acts valued more a u labels line;
+            statement = l;
+            paid = omega (arith, inside);
+          });
+      nulled = λ labels p n i line index layer others includes known declared less newest words l.
+          let f = found_pointer i (declared_variable program (based_of n)) declared in
+          let d = f.all.declared in
+          let inside = l.inside in
+          let same = layer_same k.first.control.layers layer h.free.layer others h.free.below newest h.free.newest in
+          null_does k labels p n d.members d.leaves i line index left_over most
+          (record {
+            act = record { line_fits = less; acts = few };
+            structure = leads_to m input acts valued more a blocks e p n known f.all;
+            own = f.member;
+            ends = ends_at m input acts valued more a u labels line;
+            layer = layer;
+            others = others;
+            layers = newest;
+            words = words;
+            waits = λ j. ap (λ (φ : Layer). φ.waits j) (same ∙ sym e.clear);
             statement = l;
             paid = omega (arith, inside);
           });

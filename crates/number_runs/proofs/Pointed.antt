@@ -66,7 +66,7 @@ compared_by s P one two left right h =
 
 -- ---- what is assigned
 
--- NULL, another pointer or a member that is one to a pointer, and a pointer to a member
+-- NULL, another pointer or a member that is one to a pointer, and NULL or a pointer to a member
 pub record EachPointed (s : Scope) (P : Y.Reference → Y.Pointer → Type 0) : Type 0 where
   pub null : s.locates ≡ true → (x : Spot) → is_pointer_known s x ≡ true → P (whole x) Y.NullPointer
   pub copied :
@@ -75,6 +75,9 @@ pub record EachPointed (s : Scope) (P : Y.Reference → Y.Pointer → Type 0) : 
   pub followed :
       s.locates ≡ true → (x p n : Spot) (m : ℕ) → is_pointer_known s x ≡ true → is_pointer_known s p ≡ true →
       is_member_known s is_pointer_type n m ≡ true → P (whole x) (Y.PointerIn (member_of p n m))
+  pub nulled :
+      s.locates ≡ true → s.counts ≡ true → (p n : Spot) (m : ℕ) → is_pointer_known s p ≡ true →
+      is_member_known s is_pointer_type n m ≡ true → P (member_of p n m) Y.NullPointer
   pub linked :
       s.locates ≡ true → s.counts ≡ true → (p n : Spot) (m : ℕ) (y : Spot) → is_pointer_known s p ≡ true →
       is_member_known s is_pointer_type n m ≡ true → is_pointer_known s y ≡ true →
@@ -113,13 +116,25 @@ into_member s P each target r may h =
     (subst (λ q. P (member_of w.pointer w.based w.member) (Y.PointerIn q)) (sym y.is)
     (each.linked may a.0 w.pointer w.based w.member y.spot w.known w.declared y.known))
 
+into_null :
+    (s : Scope) (P : Y.Reference → Y.Pointer → Type 0) → EachPointed s P → (target : Y.Reference) →
+    s.locates ≡ true → (is_pointer_in s target ≡ true) ⊎ ((s.counts && is_followed s target) ≡ true) →
+    P target Y.NullPointer
+into_null s P each target may (inl h) =
+    let t = pointer_in s target h in
+    subst (λ q. P q Y.NullPointer) (sym t.is) (each.null may t.spot t.known)
+into_null s P each target may (inr h) =
+    let a = and_parts s.counts (is_followed s target) h in
+    let w = followed_is s target a.1 in
+    subst (λ q. P q Y.NullPointer) (sym w.is) (each.nulled may a.0 w.pointer w.based w.member w.known w.declared)
+
 pub by_pointed :
     (s : Scope) (P : Y.Reference → Y.Pointer → Type 0) → EachPointed s P → (target : Y.Reference) (x : Y.Pointer) →
     is_pointed s target x ≡ true → P target x
 by_pointed s P each target Y.NullPointer h =
-    let a = and_parts s.locates (is_pointer_in s target) h in
-    let t = pointer_in s target a.1 in
-    subst (λ q. P q Y.NullPointer) (sym t.is) (each.null a.0 t.spot t.known)
+    let other = s.counts && is_followed s target in
+    let a = and_parts s.locates (is_pointer_in s target || other) h in
+    into_null s P each target a.0 (or_cases (is_pointer_in s target) other a.1)
 by_pointed s P each target (Y.PointerIn r) h =
     let from = is_pointer_in s r || is_followed s r in
     let one = is_pointer_in s target && from in
@@ -145,5 +160,6 @@ pointed_may s target x h =
       null = λ may y known. may;
       copied = λ may y z known other. may;
       followed = λ may y p n m known other member. may;
+      nulled = λ may c p n m known member. may;
       linked = λ may c p n m y known member other. may;
     }) target x h

@@ -7,7 +7,7 @@ use Rattle.pli_meaning.specs.Control.{Label}
 use Rattle.expression_runs.specs.Variables.{whole}
 use Rattle.locator_runs.specs.Pointers as A
 use Rattle.locator_runs.proofs.PointerAssignments.{copy_does, null_does}
-use Rattle.member_runs.specs.MemberPointers.{following, linking}
+use Rattle.member_runs.specs.MemberPointers.{following, linking, nulling}
 use Rattle.number_runs.specs.Knowledge.{HasFrame, Includes}
 use Rattle.number_runs.specs.Numbers.{name_sets, reference_sets}
 use Rattle.number_runs.specs.Statements.{is_line, is_pointed, pointer_sets}
@@ -36,6 +36,12 @@ pointed_assigned h labels target x line index includes is one sets =
       followed = λ may y p n m known other member sets'.
           bare_coded h labels (following y p n m line) index (h.plain may)
           (λ l. (h.ready.based may).followed labels y p n m line index includes known other member less l);
+      nulled = λ may c p n m known member sets'.
+          let loops = h.ready.loops c in
+          let room = (sets' c).1 in
+          bare_coded h labels (nulling p n m line) index (h.plain may)
+          (λ l. (h.ready.based may).nulled labels p n m line index loops.layer loops.others includes known member less
+          loops.newest (omega (arith, room)) l);
       linked = λ may c p n m y known member other sets'.
           let loops = h.ready.loops c in
           let room = (sets' c).1 in

@@ -364,6 +364,7 @@ pointed_taken words s target x h =
       null = λ may y known. record { registers = omega arith; words = omega arith };
       copied = λ may y z known other. record { registers = omega arith; words = omega arith };
       followed = λ may y p n m known other member. record { registers = omega arith; words = omega arith };
+      nulled = λ may c p n m known member. record { registers = omega arith; words = omega arith };
       linked = λ may c p n m y known member other. record { registers = omega arith; words = omega arith };
     }) target x h
 

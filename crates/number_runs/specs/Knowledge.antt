@@ -51,7 +51,7 @@ use Rattle.area_assignments.specs.Emptying.{emptying}
 use Rattle.area_freeings.specs.Freeing.{freeing}
 use Rattle.locator_runs.specs.Pointers.{IsPointer}
 use Rattle.member_runs.specs.MemberAssignments as M
-use Rattle.member_runs.specs.MemberPointers.{following, linking}
+use Rattle.member_runs.specs.MemberPointers.{following, linking, nulling}
 use Rattle.member_runs.specs.Members.{member_of}
 use Rattle.scalar_runs.specs.Scalars.{IsScalar}
 use Rattle.number_runs.specs.Numbers.{Scope, bounds_known, is_array_known, is_known, is_narrow_known, is_received}
@@ -356,6 +356,13 @@ pub record KnowsBased (s : Scope) (k : Block) (own : List Label) (most left' : �
       Linked k.call.surroundings.links k.call.code index
       (stmt_code k.environment none_taken (linking p n m y line)) →
       Does k labels (linking p n m y line) index left'
+  pub nulled :
+      (labels : List Label) (p n : Spot) (m line index : ℕ) (layer : Layer) (others : List Layer) →
+      Includes own labels → is_pointer_known s p ≡ true → is_member_known s is_pointer_type n m ≡ true →
+      line < 2 ^ 31 → k.first.control.layers ≡ layer ∷ others → 4 ≤ layer.words →
+      Linked k.call.surroundings.links k.call.code index
+      (stmt_code k.environment none_taken (nulling p n m line)) →
+      Does k labels (nulling p n m line) index left'
   pub allocated :
       (labels : List Label) (n p x : Spot) (line index : ℕ) → Includes own labels → is_pointer_known s p ≡ true →
       is_based_known s n ≡ true → is_area_known s x ≡ true → line < 2 ^ 31 →

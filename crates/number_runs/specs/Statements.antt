@@ -23,9 +23,10 @@ abbrev pub is_stored : Scope → Y.Stored → Bool
 is_stored s (Y.StoredNumber precision x) = (precision == 31) && is_number s x
 is_stored s _ = false
 
--- NULL, all of a pointer or a member on its way into a pointer, or a pointer into such a member: the name waits there
+-- NULL, all of a pointer or a member on its way into a pointer, or NULL or a pointer into such a member: there the name
+-- waits
 abbrev pub is_pointed : Scope → Y.Reference → Y.Pointer → Bool
-is_pointed s target Y.NullPointer = s.locates && is_pointer_in s target
+is_pointed s target Y.NullPointer = s.locates && (is_pointer_in s target || (s.counts && is_followed s target))
 is_pointed s target (Y.PointerIn r) =
     s.locates
     && ((is_pointer_in s target && (is_pointer_in s r || is_followed s r))
