@@ -11,6 +11,8 @@ pub mod FollowStatements
 pub mod Waiting
 pub mod Links
 pub mod LinkStatements
+pub mod NullLinks
+pub mod NullStatements
 pub mod NewAreas
 pub mod NewPoints
 pub mod NewMeaning

@@ -46,7 +46,7 @@ use Rattle.member_runs.proofs.MemberMeaning.{behind_found, part_missing, through
 use Rattle.member_runs.proofs.MemberPoints.{structure_at}
 use Rattle.member_runs.proofs.MemberPuts.{behind_put, designated_at, put_among}
 use Rattle.member_runs.proofs.MemberReads.{missing_ends}
-use Rattle.member_runs.proofs.Waiting.{Waits, waits_code, waits_reach}
+use Rattle.member_runs.proofs.Waiting.{Waits, named_by, waits_code, waits_reach}
 
 -- ---- what it means
 
@@ -156,7 +156,7 @@ goes_by k labels x n y members leaves member line index left' most h acts wanted
       free = record { newest = o.later.layers ∙ h.layers; words = h.words; waits = h.waits };
     } in
     let r1 = waits_reach z 0 f (front_of waits rest l) there in
-    let r2 = given_reaches is h.own z t s (0 + size_of waits) (reached r1) (back_of waits rest l)
+    let r2 = given_reaches is h.own (named_by z) t s (0 + size_of waits) (reached r1) (back_of waits rest l)
     (reached_holds r1) in
     let r = reach_then r1 r2 in
     let here : j + size_of waits + size_of rest ≡ i = omega (arith, end, n0) in

@@ -52,7 +52,7 @@ use Rattle.member_runs.proofs.MemberCode.{found_code, found_coded}
 use Rattle.member_runs.proofs.MemberPoints.{StructureAt, member_place, member_told, member_within}
 use Rattle.member_runs.proofs.MemberPuts.{behind_put, place_low, put_services, put_stands, structure_held}
 use Rattle.member_runs.proofs.MemberReads.{found_regs, living_found, more_ground}
-use Rattle.member_runs.proofs.Waiting.{Waits, WordsTold, frame_at, waiting_address, waits_code, word_place}
+use Rattle.member_runs.proofs.Waiting.{HasName, WordsTold, frame_in, waiting_address, waits_code, word_place}
 use Rattle.member_runs.proofs.Waiting.{words_at, words_clear}
 
 -- ---- the code
@@ -106,13 +106,13 @@ given_ground w p h name place a from n at =
 
 -- the words of the frame lie beside what was found
 found_apart :
-    {k : Block} {y : Spot} {members : List Y.Member} {leaves : List Y.Leaf} {member : ℕ} {numbers : ℕ → ℕ} {p : Point}
-    {name : Name} (z : Waits k y p numbers) (s : StructureAt p name members leaves) →
+    {k : Block} {members : List Y.Member} {leaves : List Y.Leaf} {member : ℕ} {numbers : ℕ → ℕ} {p : Point}
+    {name : Name} (z : HasName k p numbers) (s : StructureAt p name members leaves) →
     IsMember leaves member Y.PointerLeaf → (b : Base) (m : List ℕ) → StandsIn k.call.surroundings p b m →
     Beside (place_now (now p m) name + member_place leaves member) 16 (words_at k p) 16
 found_apart {k} {members = members} {leaves} {member} {p = p} {name} z s one b m stands =
     let w = k.call.surroundings in
-    let h = frame_at z in
+    let h = frame_in z in
     let same : frame_under w.parts p.control.layers ≡ z.layer.at = ap (λ ls. frame_under w.parts ls) z.free.newest in
     let high = h.high in
     let clear = words_clear w p z.layer z.others z.among.stands z.free (omega (arith, same, high)) in
@@ -126,18 +126,18 @@ found_apart {k} {members = members} {leaves} {member} {p = p} {name} z s one b m
     result
 
 given_word :
-    {k : Block} {y : Spot} {members : List Y.Member} {leaves : List Y.Leaf} {member : ℕ} {numbers : ℕ → ℕ} {p : Point}
-    {name : Name} (z : Waits k y p numbers) (s : StructureAt p name members leaves) →
+    {k : Block} {members : List Y.Member} {leaves : List Y.Leaf} {member : ℕ} {numbers : ℕ → ℕ} {p : Point}
+    {name : Name} (z : HasName k p numbers) (s : StructureAt p name members leaves) →
     IsMember leaves member Y.PointerLeaf → (at : Base → ℕ) → ((b : Base) → at b % 4 ≡ 0) →
     ((b : Base) → at b + 16 ≤ memory_size) → ((b : Base) → 4 * length k.call.code ≤ at b) →
     PartGoes k.call.surroundings.links k.call.code (services_of p)
-    (λ n b u. Known (given_ground k.call.surroundings p (frame_at z) name (member_place leaves member)
-    z.at.points.name (words_at k p) n at) (services_of p) numbers (λ j. 0) (found_regs at) b u)
+    (λ n b u. Known (given_ground k.call.surroundings p (frame_in z) name (member_place leaves member)
+    z.name (words_at k p) n at) (services_of p) numbers (λ j. 0) (found_regs at) b u)
     (word_copied waiting_address found_address)
-given_word {k} {y} {members} {leaves} {member} {numbers} {p} {name} z s one at even inside low n c i f less l there =
+given_word {k} {members} {leaves} {member} {numbers} {p} {name} z s one at even inside low n c i f less l there =
     let w = k.call.surroundings in
-    let h = frame_at z in
-    let a = z.at.points.name in
+    let h = frame_in z in
+    let a = z.name in
     let from = words_at k p in
     let place = member_place leaves member in
     let frame = frame_under w.parts p.control.layers in
@@ -176,26 +176,26 @@ given_word {k} {y} {members} {leaves} {member} {numbers} {p} {name} z s one at e
 
 -- from where the name waits to the point behind
 pub given_reaches :
-    {k : Block} {x n y : Spot} {members : List Y.Member} {leaves : List Y.Leaf} {member : ℕ} {numbers : ℕ → ℕ}
+    {k : Block} {x n : Spot} {members : List Y.Member} {leaves : List Y.Leaf} {member : ℕ} {numbers : ℕ → ℕ}
     {p : Point} {i : ℕ} (is : IsStructure k x n members leaves) (one : IsMember leaves member Y.PointerLeaf)
-    (z : Waits k y p numbers) (t : PointerAt k x is.pointer p) (s : StructureAt p t.points.name members leaves)
+    (z : HasName k p numbers) (t : PointerAt k x is.pointer p) (s : StructureAt p t.points.name members leaves)
     (c : ℕ) (f : Family) →
     Linked k.call.surroundings.links k.call.code i
     (found_code (name_at_place k.environment x) is.signature member ++ given_code) →
     ((b : Base) →
-    At b i (Known (more_ground k.call.surroundings p (WordsTold 4 z.at.points.name (words_at k p)) (frame_at z))
+    At b i (Known (more_ground k.call.surroundings p (WordsTold 4 z.name (words_at k p)) (frame_in z))
     (services_of p) numbers (λ j. 0) nothing b) (f b)) →
     Reach k.call.code c f (services_of p)
     (c + size_of (found_code (name_at_place k.environment x) is.signature member ++ given_code))
-    (services_of (behind_put s member (BasicPointer z.at.points.name)))
-    (λ b u. IsIn k.call.surroundings (behind_put s member (BasicPointer z.at.points.name)) numbers
+    (services_of (behind_put s member (BasicPointer z.name)))
+    (λ b u. IsIn k.call.surroundings (behind_put s member (BasicPointer z.name)) numbers
     (i + size_of (found_code (name_at_place k.environment x) is.signature member ++ given_code)) b u)
-given_reaches {k} {x} {n} {y} {members} {leaves} {member} {numbers} {p} {i} is one z t s c f l there =
+given_reaches {k} {x} {n} {members} {leaves} {member} {numbers} {p} {i} is one z t s c f l there =
     let w = k.call.surroundings in
     let v = services_of p in
     let o = z.among in
-    let h = frame_at z in
-    let a = z.at.points.name in
+    let h = frame_in z in
+    let a = z.name in
     let from = words_at k p in
     let place = member_place leaves member in
     let finds = found_code (name_at_place k.environment x) is.signature member in
@@ -246,7 +246,7 @@ given_reaches {k} {x} {n} {y} {members} {leaves} {member} {numbers} {p} {i} is o
     let m = e.holds.body.memory in
     let there' = member_told s one m.before m.stands.storage in
     let room = there'.inside in
-    let put = put_stands w s one (BasicPointer a) b m.before (StoresName a z.at.fits) (omega (arith, long)) o.stands
+    let put = put_stands w s one (BasicPointer a) b m.before (StoresName a z.fits) (omega (arith, long)) o.stands
     m.stands in
     in_known {t = λ j. 0} {rs = nothing} h o.image.parts
     (record {

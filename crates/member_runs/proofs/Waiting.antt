@@ -14,6 +14,7 @@ use Rattle.pli_coding.specs.Instructions.{load_word, store_word}
 use Rattle.pli_coding.specs.Locating.{Address, in_own_frame, name_copied, place_behind, word_copied}
 use Rattle.pli_coding.specs.Registers.{frame_register, u1}
 use Rattle.storage_relation.specs.Stored.{IsBeside, IsClear}
+use Rattle.storage_relation.specs.Telling.{IsName}
 use Rattle.storage_relation.proofs.NameWords.{name_words}
 use Rattle.activation_relation.specs.Frames.{AreLaid, FramesStand, Stores, frame_bytes, frame_start, frame_under}
 use Rattle.activation_relation.specs.Frames.{stored}
@@ -123,7 +124,7 @@ words_clear w p φ φs known free low =
     (omega (arith, covered, above, words, low))
 
 -- a word that is written there leaves all that stands
-word_stands :
+pub word_stands :
     (w : Surroundings) (p : Point) (φ : Layer) (φs : List Layer) (q x : ℕ) (b : Base) (m : List ℕ) →
     Stands w p → IsFrame φ.at → IsFree p φ φs → φ.at - 16 ≤ q → q + 4 ≤ φ.at → length m ≡ memory_size →
     StandsIn w p b m → StandsIn w p b (store 4 m q x)
@@ -162,7 +163,7 @@ word_stands w p φ φs q x b m known frame free from' to' bytes stands =
 abbrev pub WordsTold : (n : ℕ) (a : Name) (at : ℕ) → List ℕ → Type 0
 WordsTold n a at m = (j : ℕ) → j < n → load 4 m (at + 4 * j) ≡ word_of a j
 
-one_more :
+pub one_more :
     (n : ℕ) (a : Name) (at : ℕ) (m : List ℕ) → word_of a n < 2 ^ 32 → at + 16 ≤ length m → n < 4 →
     WordsTold n a at m → WordsTold (suc n) a at (store 4 m (at + 4 * n) (word_of a n))
 one_more n a at m few room less told j low =
@@ -190,6 +191,29 @@ pub record Waits (k : Block) (y : Spot) (p : Point) (numbers : ℕ → ℕ) : Ty
 
 abbrev pub frame_at : {k : Block} {y : Spot} {p : Point} {numbers : ℕ → ℕ} → Waits k y p numbers → frame_of k p
 frame_at z = point_frame z.among.stands z.among.image
+
+-- around any name there
+pub record HasName (k : Block) (p : Point) (numbers : ℕ → ℕ) : Type 0 where
+  pub among : IsAmong k numbers p
+  pub name : Name
+  pub fits : IsName name
+  pub layer : Layer
+  pub others : List Layer
+  pub free : IsFree p layer others
+
+abbrev pub named_by : {k : Block} {y : Spot} {p : Point} {numbers : ℕ → ℕ} → Waits k y p numbers → HasName k p numbers
+named_by z =
+    record {
+      among = z.among;
+      name = z.at.points.name;
+      fits = z.at.fits;
+      layer = z.layer;
+      others = z.others;
+      free = z.free;
+    }
+
+abbrev pub frame_in : {k : Block} {p : Point} {numbers : ℕ → ℕ} → HasName k p numbers → frame_of k p
+frame_in z = point_frame z.among.stands z.among.image
 
 abbrev pub words_at : Block → Point → ℕ
 words_at k p = frame_under k.call.surroundings.parts p.control.layers - 16

@@ -3,7 +3,7 @@
 ghost use Rattle.member_runs.specs.Allocations.{StructureAllocated};
 ghost use Rattle.member_runs.specs.MemberAssignments.{MemberAssigned};
 ghost use Rattle.member_runs.specs.Members.{MemberRead};
-ghost use Rattle.member_runs.specs.MemberPointers.{MemberFollowed, MemberLinked};
+ghost use Rattle.member_runs.specs.MemberPointers.{MemberFollowed, MemberLinked, MemberNulled};
 
 /// A number that is a member of what a pointer variable points to leaves what it means in a register.
 pub fn member_read()
@@ -23,6 +23,11 @@ pub fn member_followed()
 /// A member that is assigned what a POINTER variable holds does what it means.
 pub fn member_linked()
     ensures { MemberLinked }
+{}
+
+/// A member that is assigned NULL does what it means.
+pub fn member_nulled()
+    ensures { MemberNulled }
 {}
 
 /// ALLOCATE of a structure in an area, which sets the pointer variable, does what it means.

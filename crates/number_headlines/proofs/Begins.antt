@@ -27,6 +27,8 @@ use Rattle.run_steps.specs.DataNamed.{IsNamed}
 use Rattle.run_steps.proofs.DataNamed.{is_named_back, is_named_front}
 use Rattle.program_runs.specs.Initial.{Begins}
 use Rattle.program_runs.proofs.Initial.{bare_begins}
+use Rattle.member_runs.specs.Members.{structure_declared}
+use Rattle.number_runs.proofs.Members.{based_bare}
 use Rattle.program_places.specs.Constants.{constants_in}
 use Rattle.program_places.specs.Programs.{IsReceiving, code_for, environment_for, links_for, program_environment}
 use Rattle.pli_headline.specs.Headline.{FitsMemory, parts}
@@ -96,7 +98,10 @@ one_begins :
     FitsMemory (picture_of parts program) → (is_any d ≡ true) ⊎ (is_parameter d ≡ true) →
     AreNamed program (if is_automatic d.class then automatic_made e line place d else []) → BegunIn program d
 one_begins program e line place d fits (inl any) named =
-    of_any (BegunIn program) refl (λ n some few. refl) d
+    of_any (BegunIn program)
+    (λ ms ls fit. let bare = based_bare ms ls fit in
+    bare_begins (constants_in (code_for program)) (linked_code (code_for program)) (links_for program).data'
+    (structure_declared ms ls) bare.0 bare.1) (λ n some few. refl) d
     (λ is. declared_begins program e line place d fits is named) any
 one_begins program e line place d fits (inr parameter) named =
     subst (BegunIn program) (sym (parameter_declared_is d parameter)) refl

@@ -43,6 +43,7 @@ use Rattle.nested_calls.proofs.NestedFunctions.{deep_function_ends, nested_funct
 use Rattle.number_runs.specs.Knowledge as Left
 use Rattle.number_runs.specs.Knowledge.{IsReady, IsUnraised, IsValued, KnowsAroundTexts, KnowsCalls, KnowsPuts}
 use Rattle.number_runs.specs.Knowledge.{KnowsRaises, call_number, call_statement, most_set, KnowsSignals}
+use Rattle.number_runs.specs.Numbers.{without_located}
 use Rattle.number_runs.specs.Statements.{statements_set}
 use Rattle.number_runs.specs.Variables.{bytes_of}
 use Rattle.number_runs.proofs.Homes.{none_raised}
@@ -60,7 +61,7 @@ use Rattle.number_headlines.proofs.ListBodies.{knows_given}
 use Rattle.number_headlines.proofs.Inner.{Inner, inner_none}
 use Rattle.number_headlines.proofs.Mains.{Main, most_for, result_of, run_for}
 use Rattle.number_headlines.proofs.Puts.{constants_known, error_routine, lists_known}
-use Rattle.number_headlines.proofs.Based.{based_known}
+use Rattle.number_headlines.proofs.Based.{based_known, placed_known}
 use Rattle.number_headlines.proofs.Running.{EachBody, EachGiven, IsEntered, IsRunning, Running, block_of_run, told_run}
 use Rattle.number_headlines.proofs.Running.{told_running, waited_running}
 use Rattle.number_headlines.proofs.Tables.{block_known}
@@ -152,16 +153,31 @@ signals_of once {program} m input acts valued more a blocks few h labels c line 
 -- numbers are written by the lists of the program
 puts_of :
     MarkedOnce → {program : Y.Program} (m : Main program) (input : List ℕ) (acts : ℕ) (valued : Bool) (more : ℕ)
-    (a : Running) (blocks : ℕ) → acts + 1 < 2 ^ 64 → IsRunning m input acts valued more a blocks →
+    (a : Running) (blocks : ℕ) → acts + 1 < 2 ^ 64 → IsEntered m input acts valued more a blocks →
     KnowsPuts (scope_of program m.called a.head a.body) (block_of_run program input acts valued more a)
     (most_for program)
 unfolding unraised_of
-puts_of once {program} m input acts valued more a blocks few h =
+puts_of once {program} m input acts valued more a blocks few e =
     let k = block_of_run program input acts valued more a in
-    puts_known (scope_of program m.called a.head a.body) k (most_for program) h.begun
+    let h = e.running in
+    let u = unraised_of once m input acts valued more a blocks few h in
+    puts_known (scope_of program m.called a.head a.body) k (most_for program) h.begun u h.variables (λ may. h.arrays)
+    (λ may. h.narrows) h.parameters (λ may. absurd (cc may)) (λ may. constants_known program k m.memory h.told refl)
+    (lists_known program k m.memory h.told) (λ may. placed_known m input acts valued more a blocks e u)
+
+-- but nothing that is BASED where limits wait
+told_puts :
+    MarkedOnce → {program : Y.Program} (m : Main program) (input : List ℕ) (acts : ℕ) (valued : Bool) (more : ℕ)
+    (a : Running) (blocks : ℕ) → acts + 1 < 2 ^ 64 → IsRunning m input acts valued more a blocks →
+    KnowsPuts (without_located (scope_of program m.called a.head a.body))
+    (block_of_run program input acts valued more a) (most_for program)
+unfolding unraised_of
+told_puts once {program} m input acts valued more a blocks few h =
+    let k = block_of_run program input acts valued more a in
+    puts_known (without_located (scope_of program m.called a.head a.body)) k (most_for program) h.begun
     (unraised_of once m input acts valued more a blocks few h) h.variables (λ may. h.arrays)
     (λ may. h.narrows) h.parameters (λ may. absurd (cc may)) (λ may. constants_known program k m.memory h.told refl)
-    (lists_known program k m.memory h.told)
+    (lists_known program k m.memory h.told) (λ may. absurd (cc may))
 
 -- wherever limits wait in words of its frame, and texts on their stack, calls do what they mean
 abbrev EachCall : {program : Y.Program} → Main program → (input : List ℕ) → (acts : ℕ) → (valued : Bool) →
@@ -224,7 +240,7 @@ ready once {program} m input acts valued more a blocks few e calls given =
       jumps = λ labels level label line index includes out. absurd (cc out);
       texts = λ may. texts_of once m input acts valued more a blocks few a.layers h calls;
       signals = signals_of once m input acts valued more a blocks few h;
-      puts = λ may. puts_of once m input acts valued more a blocks few h;
+      puts = λ may. puts_of once m input acts valued more a blocks few e;
       loops = λ may. record {
         layer = φ;
         others = φs;
@@ -244,7 +260,7 @@ ready once {program} m input acts valued more a blocks few e calls given =
         signals = λ waits.
             signals_of once m input acts valued more (told_run a waits φ φs) blocks few (told_running h waits);
         puts = λ waits may.
-            puts_of once m input acts valued more (told_run a waits φ φs) blocks few (told_running h waits);
+            told_puts once m input acts valued more (told_run a waits φ φs) blocks few (told_running h waits);
       };
       room = omega arith;
       home = λ may. record {

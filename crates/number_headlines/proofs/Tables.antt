@@ -36,10 +36,12 @@ use Rattle.number_runs.specs.Numbers.{is_parameter}
 use Rattle.number_runs.specs.Variables.{AreTabled, IsTabled, are_any, are_known, are_plain, bytes_of, is_any}
 use Rattle.number_runs.specs.Variables.{is_declared}
 use Rattle.number_runs.specs.Variables.{variable_bytes}
-use Rattle.area_runs.specs.Based.{based_declared, pointer_declared}
+use Rattle.area_runs.specs.Based.{pointer_declared}
+use Rattle.member_runs.specs.Members.{structure_declared}
 use Rattle.number_runs.proofs.Areas.{capacity_in}
 use Rattle.number_runs.proofs.Based.{area_declared}
 use Rattle.number_runs.proofs.Declared.{area_takes, of_any, of_declared, sized}
+use Rattle.number_runs.proofs.Members.{based_ruled, based_shaped, based_takes}
 use Rattle.number_runs.proofs.Narrow.{by_narrow}
 use Rattle.number_runs.proofs.BlocksTaken.{plain_known}
 use Rattle.number_runs.proofs.Variables.{parameter_declared_is}
@@ -56,7 +58,7 @@ one_of d h = or_cases (is_any d) (is_parameter d) h
 
 takes_some : (d : Y.DeclaredVariable) → (is_any d ≡ true) ⊎ (is_parameter d ≡ true) → 32 ≤ variable_bytes d
 takes_some d (inl h) =
-    of_any (λ d'. 32 ≤ variable_bytes d') (omega arith) (λ n some few. area_takes n some) d (λ is. (sized d is).some) h
+    of_any (λ d'. 32 ≤ variable_bytes d') based_takes (λ n some few. area_takes n some) d (λ is. (sized d is).some) h
 takes_some d (inr h) = subst (λ d'. 32 ≤ variable_bytes d') (sym (parameter_declared_is d h)) (omega arith)
 
 -- so many bytes hold no more variables than that
@@ -313,7 +315,7 @@ any_tabled :
     length e.table < most_signatures → HasSignature (signature_of d) e.table → IsTabled e (map template_of e.table) d
 any_tabled e d is few has =
     of_any (λ d'. HasSignature (signature_of d') e.table → IsTabled e (map template_of e.table) d')
-    (λ has'. other_tabled e based_declared refl few has')
+    (λ ms ls fit has'. other_tabled e (structure_declared ms ls) (based_shaped ms ls fit) few has')
     (λ n some less has'. other_tabled e (area_declared n) (area_shaped n less) few has') d
     (λ one. λ has'. one_tabled e d one few has') is has
 
@@ -401,13 +403,7 @@ area_ruled n few =
 
 known_ruled : (d : Y.DeclaredVariable) → (is_any d ≡ true) ⊎ (is_parameter d ≡ true) → IsRuled d
 known_ruled d (inl h) =
-    of_any IsRuled (
-      record {
-        headed = refl;
-        leaved = (record { sized = refl; few = omega arith; bounded = tt; placed = refl }, tt);
-      },
-      (tt, tt),
-    ) (λ n some few. area_ruled n few) d (λ is. declared_ruled d is) h
+    of_any IsRuled based_ruled (λ n some few. area_ruled n few) d (λ is. declared_ruled d is) h
 known_ruled d (inr h) =
     subst IsRuled (sym (parameter_declared_is d h))
     (record { headed = search rules; leaved = search rules }, (tt, tt))
@@ -445,7 +441,7 @@ declared_unstatic d h =
 
 known_unstatic : (d : Y.DeclaredVariable) → (is_any d ≡ true) ⊎ (is_parameter d ≡ true) → IsUnstatic d
 known_unstatic d (inl h) =
-    of_any IsUnstatic (tt, refl) (λ n some few. (tt, refl)) d (λ is. declared_unstatic d is) h
+    of_any IsUnstatic (λ ms ls fit. (tt, refl)) (λ n some few. (tt, refl)) d (λ is. declared_unstatic d is) h
 known_unstatic d (inr h) = subst IsUnstatic (sym (parameter_declared_is d h)) (tt, refl)
 
 each_unstatic : (ds : List Y.DeclaredVariable) → are_known ds ≡ true → Every IsUnstatic ds

@@ -14,6 +14,7 @@ pub mod SumRows
 pub mod GatheredRows
 pub mod TextRows
 pub mod AreaRows
+pub mod ChainRows
 pub mod PowerRows
 pub mod InitialRows
 pub mod EuclidRows

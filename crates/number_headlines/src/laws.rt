@@ -4,6 +4,7 @@ ghost use Rattle.number_headlines.specs.AlarmRows.{AlarmKept};
 ghost use Rattle.number_headlines.specs.AreaRows.{GatherKept};
 ghost use Rattle.number_headlines.specs.ArrayRows.{SieveKept};
 ghost use Rattle.number_headlines.specs.CallRows.{CallingKept};
+ghost use Rattle.number_headlines.specs.ChainRows.{ChainKept};
 ghost use Rattle.number_headlines.specs.CountRows.{CountingKept};
 ghost use Rattle.number_headlines.specs.EuclidRows.{EuclidKept};
 ghost use Rattle.number_headlines.specs.FlagRows.{FlagKept};
@@ -121,6 +122,13 @@ pub fn word_kept()
 /// A worked row with an area: numbers are put into it by way of a pointer, summed and printed, and it is emptied.
 pub fn gather_kept()
     ensures { GatherKept }
+{
+    number_headlines_kept();
+}
+
+/// A worked row with a list: structures are linked in an area by way of pointers, walked, written and freed.
+pub fn chain_kept()
+    ensures { ChainKept }
 {
     number_headlines_kept();
 }

@@ -97,10 +97,10 @@ held parts d keeper h = by (or_cases (is_declared d) (is_area d) h)
 
 -- what is BASED takes nothing
 based_bytes : (parts : MemoryParts) (d : Y.DeclaredVariable) → is_based d ≡ true → frame_bytes parts d ≡ 0
-based_bytes parts d h = ap (frame_bytes parts) (based_declared_is d h)
+based_bytes parts d h = ap (frame_bytes parts) (based_declared_is d h).0
 
 based_other : (d : Y.DeclaredVariable) → is_based d ≡ true → is_automatic d.class ≡ false
-based_other d h = ap (λ (u : Y.DeclaredVariable). is_automatic u.class) (based_declared_is d h)
+based_other d h = ap (λ (u : Y.DeclaredVariable). is_automatic u.class) (based_declared_is d h).0
 
 -- ---- where they are made
 

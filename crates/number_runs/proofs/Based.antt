@@ -4,15 +4,16 @@ use Rattle.std.specs.Prelude.{◌^◌, ◌≤◌, ◌&&◌, ◌==◌, Bool, nat_
 use Rattle.std.proofs.lemmas.Bool.{and_parts, eqb-true, leb-true}
 use Rattle.pli_language.specs.Tree as T
 use Rattle.pli_typing.specs.TypedTree as Y
-use Rattle.expression_runs.specs.Variables.{Spot, variable_of, whole, whole_part}
+use Rattle.expression_runs.specs.Variables.{Spot, variable_of, whole}
 use Rattle.scalar_runs.specs.Scalars.{scalar_leaf}
-use Rattle.area_runs.specs.Based.{based_declared, based_of, pointer_declared, through}
+use Rattle.area_runs.specs.Based.{based_of, pointer_declared}
 use Rattle.area_freeings.specs.Freeing.{freed_by}
+use Rattle.member_runs.specs.Members.{member_of, member_part, structure_declared}
 use Rattle.number_runs.specs.Based.{is_area, is_area_type, is_based, is_based_class, is_made_class, is_one_leaf}
-use Rattle.number_runs.specs.Based.{is_one_of, is_pointer, is_pointer_type, is_word_type}
+use Rattle.number_runs.specs.Based.{are_some_members, is_closed, is_one_of, is_pointer, is_pointer_type, is_word_type}
 use Rattle.number_runs.specs.Narrow.{type_in}
 use Rattle.number_runs.specs.Numbers.{Scope, is_area_known, is_automatic, is_based_known, is_based_variable, is_located}
-use Rattle.number_runs.specs.Numbers.{is_pointer_in, is_pointer_known, spot_of}
+use Rattle.number_runs.specs.Numbers.{is_member_known, is_pointer_in, is_pointer_known, spot_of}
 use Rattle.number_runs.specs.Statements.{is_allocation, is_area_variable, is_freeing}
 use Rattle.number_runs.proofs.Variables.{automatic_is, part_is}
 
@@ -28,7 +29,7 @@ one_declared c t =
       evaluations = [];
     }
 
-leaf_is :
+pub leaf_is :
     (test : Y.LeafType → Bool) (t : Y.LeafType) (bs : List Y.Bounds) (initial : List T.InitialItem) →
     is_one_leaf test t bs initial ≡ true →
     ((λ (l : Y.Leaf). l) (record { type = t; bounds = bs; initial = initial }) ≡ scalar_leaf t []) × (test t ≡ true)
@@ -76,7 +77,7 @@ based_is Y.ParameterClass h = absurd (cc h)
 based_is Y.StaticClass h = absurd (cc h)
 based_is Y.ControlledClass h = absurd (cc h)
 
-pointer_type_is : (t : Y.LeafType) → is_pointer_type t ≡ true → t ≡ Y.PointerLeaf
+pub pointer_type_is : (t : Y.LeafType) → is_pointer_type t ≡ true → t ≡ Y.PointerLeaf
 pointer_type_is Y.PointerLeaf h = refl
 pointer_type_is (Y.FixedLeaf p) h = absurd (cc h)
 pointer_type_is (Y.CharacterLeaf size) h = absurd (cc h)
@@ -85,7 +86,7 @@ pointer_type_is Y.BitLeaf h = absurd (cc h)
 pointer_type_is (Y.OffsetLeaf area) h = absurd (cc h)
 pointer_type_is (Y.AreaLeaf size) h = absurd (cc h)
 
-word_type_is : (t : Y.LeafType) → is_word_type t ≡ true → t ≡ Y.FixedLeaf 31
+pub word_type_is : (t : Y.LeafType) → is_word_type t ≡ true → t ≡ Y.FixedLeaf 31
 word_type_is (Y.FixedLeaf p) h = ap Y.FixedLeaf (eqb-true p 31 h)
 word_type_is Y.PointerLeaf h = absurd (cc h)
 word_type_is (Y.CharacterLeaf size) h = absurd (cc h)
@@ -102,12 +103,24 @@ pointer_is d h =
     b.0 ∙ ap (λ c. one_declared c (type_in d.leaves)) (made_is d.class a.0)
     ∙ ap (λ t. one_declared Y.AutomaticClass t) (pointer_type_is (type_in d.leaves) b.1)
 
-pub based_declared_is : (d : Y.DeclaredVariable) → is_based d ≡ true → d ≡ based_declared
+closed_is : (r : Option Y.ReferMember) (es : List Y.Evaluation) → is_closed r es ≡ true → (r ≡ None) × (es ≡ [])
+closed_is None [] h = (refl, refl)
+closed_is None (e ∷ es) h = absurd (cc h)
+closed_is (Some r) es h = absurd (cc h)
+
+-- a structure that is BASED, with members
+pub based_declared_is :
+    (d : Y.DeclaredVariable) → is_based d ≡ true →
+    (d ≡ structure_declared d.members d.leaves) × (are_some_members d.leaves ≡ true)
 based_declared_is d h =
-    let a = and_parts (is_based_class d.class) (is_one_of is_word_type d.members d.leaves d.refer d.evaluations) h in
-    let b = one_is is_word_type d.class d.members d.leaves d.refer d.evaluations a.1 in
-    b.0 ∙ ap (λ c. one_declared c (type_in d.leaves)) (based_is d.class a.0)
-    ∙ ap (λ t. one_declared Y.BasedClass t) (word_type_is (type_in d.leaves) b.1)
+    let a = and_parts (is_based_class d.class) (are_some_members d.leaves && is_closed d.refer d.evaluations) h in
+    let b = and_parts (are_some_members d.leaves) (is_closed d.refer d.evaluations) a.1 in
+    let c = closed_is d.refer d.evaluations b.1 in (
+      ap (λ k. declared_by k d.members d.leaves d.refer d.evaluations) (based_is d.class a.0)
+          ∙ ap (λ r. declared_by Y.BasedClass d.members d.leaves r d.evaluations) c.0
+          ∙ ap (λ es. declared_by Y.BasedClass d.members d.leaves None es) c.1,
+      b.0,
+    )
 
 -- an area of so many bytes
 abbrev pub area_declared : (bytes : ℕ) → Y.DeclaredVariable
@@ -193,42 +206,45 @@ area_variable_is s v h =
     let a = and_parts (is_automatic v.class) (is_area_known s (spot_of v)) h in
     (ap (λ k. record v { class = k }) (automatic_is v.class a.0), a.1)
 
--- what a pointer that is known leads to
-pub record IsThrough (s : Scope) (r : Y.Reference) : Type 0 where
+-- a member of what a pointer that is known leads to
+pub record IsThrough (s : Scope) (test : Y.LeafType → Bool) (r : Y.Reference) : Type 0 where
   pub pointer : Spot
   pub based : Spot
-  pub is : r ≡ through pointer based
+  pub member : ℕ
+  pub is : r ≡ member_of pointer based member
   pub known : is_pointer_known s pointer ≡ true
-  pub declared : is_based_known s based ≡ true
+  pub declared : is_member_known s test based member ≡ true
   pub may : s.locates ≡ true
 
 pub through_is :
-    (s : Scope) (v : Y.Variable) (p : Y.Pointer) (part : Y.Part) → is_located s v p part ≡ true →
-    IsThrough s (Y.Referring v (Y.LocatedBy p) part Y.NoNumber)
-through_is s v (Y.PointerIn r) part h =
-    let last = is_pointer_in s r in
-    let a = and_parts s.locates (is_based_variable s v && ((part.first == 0) && ((part.count == 1) && last))) h in
-    let b = and_parts (is_based_variable s v) ((part.first == 0) && ((part.count == 1) && last)) a.1 in
-    let c = and_parts (part.first == 0) ((part.count == 1) && last) b.1 in
-    let d = and_parts (part.count == 1) last c.1 in
-    let n = based_variable_is s v b.0 in
+    (s : Scope) (test : Y.LeafType → Bool) (v : Y.Variable) (p : Y.Pointer) (part : Y.Part) →
+    is_located s test v p part ≡ true → IsThrough s test (Y.Referring v (Y.LocatedBy p) part Y.NoNumber)
+through_is s test v (Y.PointerIn r) part h =
+    let x = spot_of v in
+    let last = is_member_known s test x part.first && is_pointer_in s r in
+    let a = and_parts s.locates (is_based_class v.class && ((part.count == 1) && last)) h in
+    let b = and_parts (is_based_class v.class) ((part.count == 1) && last) a.1 in
+    let c = and_parts (part.count == 1) last b.1 in
+    let d = and_parts (is_member_known s test x part.first) (is_pointer_in s r) c.1 in
     let p = pointer_in s r d.1 in
     record {
       pointer = p.spot;
-      based = spot_of v;
+      based = x;
+      member = part.first;
       is =
-          ap (λ u. Y.Referring u (Y.LocatedBy (Y.PointerIn r)) part Y.NoNumber) n.0
-          ∙ ap (λ q. Y.Referring (based_of (spot_of v)) (Y.LocatedBy (Y.PointerIn r)) q Y.NoNumber)
-          (part_is part c.0 d.0)
-          ∙ ap (λ q. Y.Referring (based_of (spot_of v)) (Y.LocatedBy (Y.PointerIn q)) whole_part Y.NoNumber) p.is;
+          ap (λ k. Y.Referring (record v { class = k }) (Y.LocatedBy (Y.PointerIn r)) part Y.NoNumber)
+          (based_is v.class b.0)
+          ∙ ap (λ n. Y.Referring (based_of x) (Y.LocatedBy (Y.PointerIn r)) (record part { count = n }) Y.NoNumber)
+          (eqb-true part.count 1 c.0)
+          ∙ ap (λ q. Y.Referring (based_of x) (Y.LocatedBy (Y.PointerIn q)) (member_part part.first) Y.NoNumber) p.is;
       known = p.known;
-      declared = n.1;
+      declared = d.0;
       may = a.0;
     }
-through_is s v Y.NullPointer part h = absurd (cc h)
-through_is s v (Y.PointerFrom c) part h = absurd (cc h)
-through_is s v (Y.AddressOf r) part h = absurd (cc h)
-through_is s v (Y.PointerInto x area) part h = absurd (cc h)
+through_is s test v Y.NullPointer part h = absurd (cc h)
+through_is s test v (Y.PointerFrom c) part h = absurd (cc h)
+through_is s test v (Y.AddressOf r) part h = absurd (cc h)
+through_is s test v (Y.PointerInto x area) part h = absurd (cc h)
 
 -- ---- statements
 

@@ -44,7 +44,7 @@ declared_takes d h =
 known_takes :
     (d : Y.DeclaredVariable) → (is_any d ≡ true) ⊎ (is_parameter d ≡ true) → variable_takes d ≡ none_taken
 known_takes d (inl h) =
-    of_any (λ d'. variable_takes d' ≡ none_taken) refl
+    of_any (λ d'. variable_takes d' ≡ none_taken) (λ ms ls fit. refl)
     (λ n some few. ap (λ q. if q then none_taken else extents_take none_taken (area_declared n)) (constant_area n few))
     d (λ is. declared_takes d is) h
 known_takes d (inr h) = subst (λ d'. variable_takes d' ≡ none_taken) (sym (parameter_declared_is d h)) refl

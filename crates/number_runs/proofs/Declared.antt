@@ -24,8 +24,9 @@ use Rattle.number_runs.specs.Initial.{are_values, values_of}
 use Rattle.number_runs.specs.Arrays.{array_bounds, is_array}
 use Rattle.scalar_runs.specs.Scalars.{scalar_declared}
 use Rattle.number_runs.specs.Narrow.{is_narrow, is_narrow_type, narrow_type}
-use Rattle.area_runs.specs.Based.{based_declared, pointer_declared}
-use Rattle.number_runs.specs.Based.{is_area, is_based, is_pointer}
+use Rattle.area_runs.specs.Based.{pointer_declared}
+use Rattle.member_runs.specs.Members.{structure_declared}
+use Rattle.number_runs.specs.Based.{are_some_members, is_area, is_based, is_pointer}
 use Rattle.number_runs.specs.Numbers.{is_plain}
 use Rattle.number_runs.specs.Variables.{is_any, is_declared, variable_bytes}
 use Rattle.number_runs.proofs.Initial.{Starts, array_starts, array_valued, scalar_starts, scalar_valued}
@@ -62,7 +63,8 @@ of_declared P one many few point d h = by (or_cases (is_plain d) (is_array d || 
 
 -- what is so of what is BASED, of areas and of these is so of each that is known
 pub of_any :
-    (P : Y.DeclaredVariable → Type 0) → P based_declared →
+    (P : Y.DeclaredVariable → Type 0) →
+    ((ms : List Y.Member) (ls : List Y.Leaf) → are_some_members ls ≡ true → P (structure_declared ms ls)) →
     ((bytes : ℕ) → 16 ≤ bytes → bytes ≤ 2 ^ 20 → P (area_declared bytes)) → (d : Y.DeclaredVariable) →
     (is_declared d ≡ true → P d) → is_any d ≡ true → P d
 of_any P one area d other h = by (or_cases (is_based d) (is_declared d || is_area d) h)
@@ -72,7 +74,7 @@ of_any P one area d other h = by (or_cases (is_based d) (is_declared d || is_are
     last (inr is) = let a = area_is d is in subst P (sym a.is) (area a.bytes a.some a.few)
 
     by : (is_based d ≡ true) ⊎ ((is_declared d || is_area d) ≡ true) → P d
-    by (inl is) = subst P (sym (based_declared_is d is)) one
+    by (inl is) = let b = based_declared_is d is in subst P (sym b.0) (one d.members d.leaves b.1)
     by (inr rest) = last (or_cases (is_declared d) (is_area d) rest)
 
 -- ---- what it takes

@@ -59,6 +59,7 @@ use Rattle.number_runs.specs.Numbers.{is_variable, may_calculate, number_needs, 
 use Rattle.number_runs.specs.Numbers.{numbers_set, reference_needs, reference_sets, test_needs, test_sets, type_known}
 use Rattle.number_runs.specs.Numbers.{is_narrow_with, is_wider, is_precision, is_text, text_needs, without_given}
 use Rattle.number_runs.specs.Numbers.{IsBare, is_known, is_passed, is_received, without_located}
+use Rattle.number_runs.specs.Based.{is_word_type}
 use Rattle.number_runs.specs.Narrow.{is_number_type, is_text_type}
 use Rattle.number_runs.proofs.Arrays.{element_is, subscript_given}
 use Rattle.number_runs.proofs.Narrow.{flag_does, narrow_does, narrow_told, narrow_with_is, text_known, text_type_is}
@@ -69,6 +70,7 @@ use Rattle.number_runs.proofs.Variables.{ways_stored}
 use Rattle.number_runs.proofs.Turns.{telling_same}
 use Rattle.number_runs.proofs.Waiting.{numbers_wait, numbers_without, texts_without, texts_unlocated}
 use Rattle.number_runs.proofs.Based.{through_is}
+use Rattle.number_runs.proofs.Pointed.{compared_does}
 
 -- with more registers, too
 pub more_registers : (k : Setting) (m n : ℕ) (x : Y.Number) → m ≤ n → Does k m x → Does k n x
@@ -219,6 +221,7 @@ numbers_told s k h g words few waits free =
             g.given words' waits' level n need ways some
             (stored_untold waits g.layer g.others k.block.first ways stored) free' room is give;
       };
+      pointers = λ may. absurd (cc may);
       located = λ may. absurd (cc may);
     }
 
@@ -533,8 +536,8 @@ mutual
   reference_does s k (Y.Referring v Y.NotLocated part (Y.NumberThen first (Y.NumberThen second rest))) h is room =
       absurd (cc is)
   reference_does s k (Y.Referring v (Y.LocatedBy p) part Y.NoNumber) h is room =
-      let w = through_is s v p part is in
-      subst (λ r. Does k 0 (Y.NumberIn r)) (sym w.is) (h.located w.may w.pointer w.based w.known w.declared)
+      let w = through_is s is_word_type v p part is in
+      subst (λ r. Does k 0 (Y.NumberIn r)) (sym w.is) (h.located w.may w.pointer w.based w.member w.known w.declared)
   reference_does s k (Y.Referring v (Y.LocatedBy p) part (Y.NumberThen first rest)) h is room = absurd (cc is)
 
   numbers_do :
@@ -622,5 +625,5 @@ mutual
       (texts_compare [] k comparison left right (text_needs left) (text_needs right)
       (text_does [] g k left (numbers_without h) (refl, refl) a.0 b.0)
       (λ t. text_does (TextEntry t ∷ []) g k right (numbers_without h) (refl, refl) a.0 b.1))
-  test_does s k (Y.PointersCompared equal left right) h is room = absurd (cc is)
+  test_does s k (Y.PointersCompared equal left right) h is room = compared_does s k equal left right h is
   test_does s k (Y.OffsetsCompared equal left right) h is room = absurd (cc is)

@@ -33,12 +33,13 @@ use Rattle.number_runs.specs.Knowledge.{KnowsNumbers, KnowsRaises, MayBeSet, giv
 use Rattle.number_runs.specs.Numbers.{Scope, are_arguments, arguments_need, bounds_known, call_sets, gives_lists}
 use Rattle.number_runs.specs.Numbers.{is_element, is_fixed, is_given, is_number, is_reference, is_variable, is_wider}
 use Rattle.number_runs.specs.Numbers.{number_needs, number_sets, reference_needs, reference_sets, test_needs}
+use Rattle.number_runs.specs.Based.{is_word_type}
 use Rattle.number_runs.specs.Numbers.{is_located, without_located}
 use Rattle.number_runs.specs.Statements.{is_line, is_stored, stored_needs, stored_sets, is_allocation}
 use Rattle.number_runs.specs.Statements.{is_area_variable, is_freeing}
 use Rattle.area_runs.specs.Allocations.{allocation}
-use Rattle.area_runs.specs.Based.{through}
-use Rattle.area_runs.specs.BasedAssignments as B
+use Rattle.member_runs.specs.MemberAssignments as M
+use Rattle.member_runs.specs.Members.{member_of}
 use Rattle.area_assignments.specs.Copying.{copying}
 use Rattle.area_assignments.specs.Emptying.{emptying}
 use Rattle.area_freeings.specs.Freeing.{freeing}
@@ -176,9 +177,10 @@ knows_in {s} {k = k} {most = most} r words set low plain labels line includes =
       texts = λ may. texts_in r words set may labels line includes;
       given = λ may.
           let c = and_parts s.gives s.counts may in given_in r words c.1 c.0 (low c.1) labels line includes;
-      located = λ may p n known declared.
-          subst (λ w. L.Does (setting_around w k labels line most) 0 (Y.NumberIn (through p n))) (sym (plain may))
-          ((r.based may).reads labels line p n includes known declared);
+      pointers = λ may. (r.based may).pointers;
+      located = λ may p n m known declared.
+          subst (λ w. L.Does (setting_around w k labels line most) 0 (Y.NumberIn (member_of p n m))) (sym (plain may))
+          ((r.based may).reads labels line p n m includes known declared);
     }
 
 abbrev pub knows :
@@ -316,7 +318,7 @@ scalar_does h labels target source line index includes is (inr one) two fits set
     received_does h labels target source line index includes is one two fits sets
 
 -- what is coded where no words are set aside
-bare_coded :
+pub bare_coded :
     (h : Home) (labels : List Label) (stmt : Y.Stmt) (index : ℕ) → h.words ≡ 0 →
     (Linked h.block.call.surroundings.links h.block.call.code index (stmt_code h.block.environment none_taken stmt) →
     Does h.block labels stmt index h.left') → Coded h labels stmt index
@@ -327,21 +329,21 @@ bare_coded h labels stmt index none does =
 -- to what a pointer leads to: the value waits while it is found
 located_does :
     (h : Home) (labels : List Label) (v : Y.Variable) (p : Y.Pointer) (part : Y.Part) (source : Y.Stored)
-    (line index : ℕ) → Includes h.own labels → is_line line ≡ true → is_located h.scope v p part ≡ true →
+    (line index : ℕ) → Includes h.own labels → is_line line ≡ true → is_located h.scope is_word_type v p part ≡ true →
     is_stored h.scope source ≡ true → max (stored_needs source) 1 ≤ h.block.registers →
     {n : ℕ} → stored_sets source ≤ n → HasFrame h.ready h.words n →
     Coded h labels (Y.Assign (Y.Referring v (Y.LocatedBy p) part Y.NoNumber) source line) index
 located_does h labels v p part source line index includes is one two fits {n} less sets =
-    let w = through_is h.scope v p part one in
+    let w = through_is h.scope is_word_type v p part one in
     let x = storing h.scope source two in
     let needs = x.needs in
     let few = x.sets in
     let none = h.plain w.may in
     subst (λ t. Coded h labels (Y.Assign t source line) index) (sym w.is)
-    (subst (λ q. Coded h labels (Y.Assign (through w.pointer w.based) q line) index) (sym x.is)
-    (bare_coded h labels (B.assignment w.pointer w.based x.number line) index none
-    (λ l. (h.ready.based w.may).assigned labels w.pointer w.based x.number line index (number_needs x.number) includes
-    w.known w.declared (ltb-true line (2 ^ 31) is) (omega (arith, fits, needs)) (omega (arith, fits)) l
+    (subst (λ q. Coded h labels (Y.Assign (member_of w.pointer w.based w.member) q line) index) (sym x.is)
+    (bare_coded h labels (M.assignment w.pointer w.based w.member x.number line) index none
+    (λ l. (h.ready.based w.may).assigned labels w.pointer w.based w.member x.number line index (number_needs x.number)
+    includes w.known w.declared (ltb-true line (2 ^ 31) is) (omega (arith, fits, needs)) (omega (arith, fits)) l
     (subst (λ q. L.Does (setting_around q h.block labels line h.most) (number_needs x.number) x.number) none
     (number_does h.scope (setting_around h.words h.block labels line h.most) x.number (knows h labels line includes)
     x.known (lists_at h labels line includes (number_sets x.number) n (omega (arith, few, less)) sets))))))

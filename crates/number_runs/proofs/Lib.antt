@@ -9,6 +9,8 @@ pub mod Areas
 pub mod AreaWords
 pub mod AreaNames
 pub mod AreaKnown
+pub mod Pointed
+pub mod Members
 pub mod Unset
 pub mod Taking
 pub mod Takes
@@ -23,6 +25,7 @@ pub mod Labels
 pub mod Counters
 pub mod Turns
 pub mod Homes
+pub mod PointedAssignments
 pub mod Narrowed
 pub mod Statements
 pub mod Uncounted

@@ -14,10 +14,11 @@ use Rattle.number_runs.specs.Narrow.{has_precision, is_bit, is_narrow_type, is_t
 use Rattle.number_runs.specs.Numbers.{is_narrow_with, is_number, is_test, number_needs, number_sets, reference_needs}
 use Rattle.number_runs.specs.Numbers.{reference_sets, test_needs, test_sets, type_known, is_text, text_needs}
 use Rattle.number_runs.specs.Numbers.{without_given}
-use Rattle.number_runs.specs.Statements.{is_line, is_narrowed, stored_needs, stored_sets, behind_stored}
+use Rattle.number_runs.specs.Statements.{behind_sets, is_line, is_narrowed, stored_needs, stored_sets, behind_stored}
 use Rattle.number_runs.proofs.Expressions.{number_does, test_does, text_does}
 use Rattle.number_runs.proofs.Homes.{Coded, Home, act_of, knows, lists_at, paid_for}
 use Rattle.number_runs.proofs.Narrow.{bit_is, known_narrow, narrow_with_is, precision_is, text_known, text_type_is}
+use Rattle.number_runs.proofs.PointedAssignments.{pointed_assigned}
 use Rattle.text_values.proofs.Assignments.{text_assign_does}
 use Rattle.number_runs.proofs.Waiting.{numbers_without}
 
@@ -105,7 +106,7 @@ pub narrowed_does :
     (h : Home) (labels : List Label) (target : Y.Reference) (source : Y.Stored) (line index : ℕ) →
     Includes h.own labels → is_line line ≡ true → is_narrowed h.scope target source ≡ true →
     max (stored_needs source) (behind_stored source (reference_needs target)) ≤ h.block.registers →
-    HasFrame h.ready h.words (max (stored_sets source) (reference_sets target)) →
+    HasFrame h.ready h.words (max (stored_sets source) (behind_sets source (reference_sets target))) →
     Coded h labels (Y.Assign target source line) index
 narrowed_does h labels target (Y.StoredNumber precision x) line index includes is one fits sets =
     let narrow = is_narrow_with h.scope (has_precision precision) target in
@@ -122,5 +123,6 @@ narrowed_does h labels target (Y.StoredText x) line index includes is one fits s
     let a = and_parts h.scope.texts (is_narrow_with h.scope is_text_type target && is_text g x) one in
     let b = and_parts (is_narrow_with h.scope is_text_type target) (is_text g x) a.1 in
     text_narrowed h labels target x line index includes is a.0 b.0 b.1 (omega (arith, fits))
-narrowed_does h labels target (Y.StoredPointer x) line index includes is one fits sets = absurd (cc one)
+narrowed_does h labels target (Y.StoredPointer x) line index includes is one fits sets =
+    pointed_assigned h labels target x line index includes is one sets
 narrowed_does h labels target (Y.StoredOffset x) line index includes is one fits sets = absurd (cc one)

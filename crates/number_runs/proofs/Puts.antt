@@ -40,12 +40,14 @@ use Rattle.edit_runs.proofs.Skips.{skip_does}
 use Rattle.edit_runs.proofs.TextItems.{text_goes}
 use Rattle.text_values.proofs.Known.{constant_placed}
 use Rattle.number_runs.specs.Knowledge.{IsUnraised, KnowsConstants, KnowsLists, KnowsNumbers, KnowsPuts, MayBeSet}
+use Rattle.number_runs.specs.Knowledge.{KnowsPlaced, KnowsTexts}
 use Rattle.number_runs.specs.Numbers.{Scope, bounds_known, is_array_known, is_known, is_number, is_received}
 use Rattle.scalar_runs.specs.Scalars.{IsScalar}
 use Rattle.number_runs.specs.Numbers.{is_narrow_known, number_needs, type_known}
 use Rattle.number_runs.specs.Numbers.{is_precision, is_text, text_needs}
 use Rattle.number_runs.specs.Puts.{are_pairs, are_put_items, are_shown, is_list, is_put, is_put_item, is_put_list}
 use Rattle.number_runs.specs.Puts.{is_shown, is_skip, put_item_needs, put_items_need, put_needs, without_calls}
+use Rattle.number_runs.specs.Puts.{without_functions}
 use Rattle.number_runs.proofs.Expressions.{more_registers, more_text, number_does, text_does}
 use Rattle.number_runs.proofs.Formats.{list_is}
 use Rattle.number_runs.proofs.Received.{parameter_placed}
@@ -62,13 +64,14 @@ times_are n h =
 item_goes :
     (s : Scope) (u : Puts) (i : Y.PutItem) → ArePut u → is_put_item s i ≡ true → is_shown u.formats i ≡ true →
     put_item_needs i ≤ u.need →
-    ((place : EditPlace) → KnowsNumbers (without_calls s) (within place (setting_in u))) → ItemGoes u i
-item_goes s u (Y.PutValue (Y.NumberValue precision x)) a h shown fits knows =
+    ((place : EditPlace) → KnowsNumbers (without_calls s) (within place (setting_in u))) →
+    ((place : EditPlace) → KnowsNumbers (without_functions s) (within place (setting_in u))) → ItemGoes u i
+item_goes s u (Y.PutValue (Y.NumberValue precision x)) a h shown fits texts knows =
     let room = a.registers in
     number_goes u a (omega (arith, fits, room)) (record { precision = precision; source = x })
     (λ some. precise (has_text u.formats) precision shown some)
     (λ place. more_registers (within place (setting_in u)) (number_needs x) u.need x (omega (arith, fits))
-    (number_does (without_calls s) (within place (setting_in u)) x (knows place) h (λ may. absurd (cc may))))
+    (number_does (without_functions s) (within place (setting_in u)) x (knows place) h (λ may. absurd (cc may))))
   where
     precise :
         (q : Bool) (precision : ℕ) → (not q || is_precision precision) ≡ true → q ≡ true →
@@ -77,28 +80,68 @@ item_goes s u (Y.PutValue (Y.NumberValue precision x)) a h shown fits knows =
         let a = and_parts (nat_lt 0 precision) (nat_le precision 31) h in
         (ltb-true 0 precision a.0, leb-true precision 31 a.1)
     precise false precision h some = absurd (cc some)
-item_goes s u (Y.PutValue (Y.TextValue x)) a h shown fits knows =
+item_goes s u (Y.PutValue (Y.TextValue x)) a h shown fits knows numbers =
     let b = and_parts s.texts (is_text (without_calls s) x) h in
     text_goes u a (λ some place. ((knows place).texts b.0).errors.number) x
     (λ place. more_text (within place (setting_in u)) (text_needs x) u.need x fits
     (text_does [] (without_calls s) (within place (setting_in u)) x (knows place) (refl, refl) b.0 b.1))
-item_goes s u (Y.PutValue (Y.BitValue x)) a h shown fits knows = absurd (cc h)
-item_goes s u (Y.PutValue (Y.PointerValue x)) a h shown fits knows = absurd (cc h)
-item_goes s u (Y.PutValue (Y.OffsetValue area x)) a h shown fits knows = absurd (cc h)
-item_goes s u (Y.PutValue Y.NullValue) a h shown fits knows = absurd (cc h)
-item_goes s u (Y.PutAggregate r) a h shown fits knows = absurd (cc h)
+item_goes s u (Y.PutValue (Y.BitValue x)) a h shown fits knows numbers = absurd (cc h)
+item_goes s u (Y.PutValue (Y.PointerValue x)) a h shown fits knows numbers = absurd (cc h)
+item_goes s u (Y.PutValue (Y.OffsetValue area x)) a h shown fits knows numbers = absurd (cc h)
+item_goes s u (Y.PutValue Y.NullValue) a h shown fits knows numbers = absurd (cc h)
+item_goes s u (Y.PutAggregate r) a h shown fits knows numbers = absurd (cc h)
 
 items_go :
     (s : Scope) (u : Puts) (is : List Y.PutItem) → ArePut u → are_put_items s is ≡ true →
     are_shown u.formats is ≡ true → put_items_need is ≤ u.need →
-    ((place : EditPlace) → KnowsNumbers (without_calls s) (within place (setting_in u))) → AllGo u is
-items_go s u [] a h shown fits knows = tt
-items_go s u (i ∷ is) a h shown fits knows =
+    ((place : EditPlace) → KnowsNumbers (without_calls s) (within place (setting_in u))) →
+    ((place : EditPlace) → KnowsNumbers (without_functions s) (within place (setting_in u))) → AllGo u is
+items_go s u [] a h shown fits knows numbers = tt
+items_go s u (i ∷ is) a h shown fits knows numbers =
     let b = and_parts (is_put_item s i) (are_put_items s is) h in
     let c = and_parts (is_shown u.formats i) (are_shown u.formats is) shown in (
-      item_goes s u i a b.0 c.0 (omega (arith, fits)) knows,
-      items_go s u is a b.1 c.1 (omega (arith, fits)) knows,
+      item_goes s u i a b.0 c.0 (omega (arith, fits)) knows numbers,
+      items_go s u is a b.1 c.1 (omega (arith, fits)) knows numbers,
     )
+
+texts_written : (s : Scope) (k : Setting) → KnowsTexts (without_calls s) k → KnowsTexts (without_functions s) k
+texts_written s k h =
+    record {
+      constants = h.constants;
+      errors = h.errors;
+      waits = λ entries. let w = h.waits entries in record {
+        overflow = w.overflow;
+        divisor = w.divisor;
+        subscript = w.subscript;
+        errors = w.errors;
+        functions = w.functions;
+      };
+    }
+
+-- around numbers, which may be located
+abbrev numbers_written :
+    {s : Scope} → {k : Block} → {most : ℕ} → KnowsPuts s k most → (words : ℕ) → MayBeSet s words →
+    (place : EditPlace) → (labels : List Label) → (line : ℕ) →
+    KnowsNumbers (without_functions s) (within place (setting_around words k labels line most))
+numbers_written {s} {k} {most} knows words may place labels line =
+    let h = knows.numbers words may place labels line in
+    record {
+      begun = h.begun;
+      overflow = h.overflow;
+      divisor = h.divisor;
+      subscript = h.subscript;
+      variables = h.variables;
+      arrays = h.arrays;
+      narrows = h.narrows;
+      parameters = h.parameters;
+      codes = h.codes;
+      functions = h.functions;
+      texts = λ may'. texts_written s (within place (setting_around words k labels line most)) (h.texts may');
+      given = λ may'. absurd (cc may');
+      pointers = λ may' x known. (knows.located may').pointers place x known;
+      located = λ may' p n m known declared.
+          (knows.located may').reads words place labels line p n m known declared;
+    }
 
 -- where the statement stands, in a block of a scope, while so many words are set aside, and that one act pays for it
 -- and for so much more
@@ -135,7 +178,8 @@ list_goes words s k labels line need most (i ∷ is) fs may knows h list shown f
       shown = refl;
       go = λ first more a.
           items_go s (puts_of words k labels fs line need most first more) (i ∷ is) a h shown fits
-          (λ place. knows.numbers words may place labels line);
+          (λ place. knows.numbers words may place labels line)
+          (λ place. numbers_written knows words may place labels line);
     }
 
 lists_go :
@@ -254,8 +298,9 @@ pub puts_known :
     (s.elements ≡ true → (x : Spot) → is_array_known s x ≡ true → IsArray k x (bounds_known s x)) →
     (s.narrows ≡ true → (x : Spot) → is_narrow_known s x ≡ true → IsScalar k x (type_known s x)) →
     ((x : Spot) → is_received s x ≡ true → IsParameter k x) → (s.codes ≡ true → HasCode k) →
-    (s.texts ≡ true → KnowsConstants k) → KnowsLists k → KnowsPuts s k most
-puts_known s k most b u variables arrays narrows parameters codes constants lists =
+    (s.texts ≡ true → KnowsConstants k) → KnowsLists k → (s.locates ≡ true → KnowsPlaced s k most) →
+    KnowsPuts s k most
+puts_known s k most b u variables arrays narrows parameters codes constants lists located =
     let few = u.few in
     record {
       numbers = λ words may place labels line.
@@ -287,6 +332,7 @@ puts_known s k most b u variables arrays narrows parameters codes constants list
             arrays = λ may x is. array_placed k place x (bounds_known s x) (arrays may x is);
             narrows = λ may x is. narrow_placed k place x (type_known s x) (narrows may x is);
             parameters = λ x is. parameter_placed k place x (parameters x is);
+            pointers = λ may. absurd (cc may);
             located = λ may. absurd (cc may);
             codes = codes;
             functions = λ level n is. absurd (cc is);
@@ -305,4 +351,5 @@ puts_known s k most b u variables arrays narrows parameters codes constants list
             most = omega (arith, few);
           });
       lists = lists;
+      located = located;
     }

@@ -51,7 +51,7 @@ use Rattle.number_runs.specs.Puts.{is_put}
 use Rattle.number_runs.specs.Statements.{are_statements, behind_stored, is_line, is_statement, is_stored}
 use Rattle.number_runs.specs.Statements.{statement_needs}
 use Rattle.number_runs.specs.Statements.{is_narrowed, statement_sets, statements_need, statements_set, stored_needs}
-use Rattle.number_runs.specs.Statements.{stored_sets, is_allocation, is_area_variable, is_freeing}
+use Rattle.number_runs.specs.Statements.{behind_sets, stored_sets, is_allocation, is_area_variable, is_freeing}
 use Rattle.number_runs.proofs.Counters.{IsCounting, counting_is, counting_of, statement_is}
 use Rattle.number_runs.proofs.Expressions.{number_does, test_does}
 use Rattle.number_runs.proofs.Homes.{Home, act_of, paid_for, knows, knows_in, has_test, given_does, lists_at}
@@ -63,7 +63,7 @@ use Rattle.number_runs.proofs.Labels.{placed_in, placed_with}
 use Rattle.number_runs.proofs.Puts.{put_statement_does}
 use Rattle.number_runs.proofs.Turns.{frame_told, free_above, ready_told, turn_stands, ready_unlocated}
 use Rattle.number_runs.proofs.Turns.{frame_unlocated, low_unlocated}
-use Rattle.number_runs.proofs.Variables.{behind_number}
+use Rattle.number_runs.proofs.Variables.{behind_number, sets_number}
 
 -- ---- parts of choices and loops
 
@@ -378,12 +378,14 @@ assignment_does :
     Includes h.own labels → is_line line ≡ true →
     ((is_reference h.scope target && is_stored h.scope source) ≡ true) ⊎ (is_narrowed h.scope target source ≡ true) →
     max (stored_needs source) (behind_stored source (reference_needs target)) ≤ h.block.registers →
-    HasFrame h.ready h.words (max (stored_sets source) (reference_sets target)) →
+    HasFrame h.ready h.words (max (stored_sets source) (behind_sets source (reference_sets target))) →
     Coded h labels (Y.Assign target source line) index
 assignment_does h labels target source line index includes is (inl h') fits sets =
     let b = and_parts (is_reference h.scope target) (is_stored h.scope source) h' in
     let n = behind_number h.scope source (reference_needs target) b.1 in
-    given_does h labels target source line index includes is b.0 b.1 (omega (arith, fits, n)) sets
+    given_does h labels target source line index includes is b.0 b.1 (omega (arith, fits, n))
+    (subst (λ i. HasFrame h.ready h.words (max (stored_sets source) i))
+    (sets_number h.scope source (reference_sets target) b.1) sets)
 assignment_does h labels target source line index includes is (inr h') fits sets =
     narrowed_does h labels target source line index includes is h' fits sets
 

@@ -28,26 +28,93 @@ use Rattle.number_runs.specs.Numbers.{arguments_need, arguments_set, call_needs,
 use Rattle.number_runs.specs.Numbers.{is_element, is_fixed, is_given, is_number, is_reference, is_test}
 use Rattle.number_runs.specs.Numbers.{is_variable, may_calculate, number_needs, number_sets}
 use Rattle.number_runs.specs.Numbers.{numbers_need, numbers_set, reference_needs, reference_sets, test_needs, test_sets}
+use Rattle.number_runs.specs.Based.{is_word_type}
 use Rattle.number_runs.specs.Narrow.{has_precision, is_bit, is_number_type, is_text_type}
 use Rattle.number_runs.specs.Numbers.{is_narrow_with, is_wider, is_precision, is_text, text_needs, without_given}
-use Rattle.number_runs.specs.Numbers.{IsBare, without_located}
+use Rattle.number_runs.specs.Numbers.{IsBare, are_compared, compared_sets, name_sets, without_located}
 use Rattle.number_runs.specs.Puts.{are_pairs, are_put_items, is_put, is_put_item, is_put_list, is_skip, are_shown}
 use Rattle.number_runs.specs.Puts.{is_list}
-use Rattle.number_runs.specs.Puts.{put_item_needs, put_items_need, put_needs, without_calls}
+use Rattle.number_runs.specs.Puts.{put_item_needs, put_item_sets, put_items_need, put_items_set, put_needs, put_sets}
+use Rattle.number_runs.specs.Puts.{without_calls, without_functions}
 use Rattle.number_runs.specs.Statements.{are_statements, behind_stored, is_line, is_narrowed, is_statement, is_stored}
-use Rattle.number_runs.specs.Statements.{statement_needs}
+use Rattle.number_runs.specs.Statements.{is_pointed, pointer_sets, statement_needs}
 use Rattle.number_runs.specs.Statements.{statement_sets, statements_need, statements_set, stored_needs, stored_sets}
-use Rattle.number_runs.specs.Statements.{allocation_sets, freeing_sets, is_allocation, is_freeing}
+use Rattle.number_runs.specs.Statements.{allocation_sets, behind_sets, freeing_sets, is_allocation, is_freeing}
 use Rattle.number_runs.proofs.Arrays.{element_is}
 use Rattle.number_runs.proofs.Based.{allocation_is, freeing_is, through_is}
 use Rattle.number_runs.proofs.Counters.{IsCounting, counting_is, counting_of, statement_is}
 use Rattle.number_runs.proofs.Unset.{number_unset, test_unset}
-use Rattle.number_runs.proofs.Variables.{behind_number}
-use Rattle.number_runs.proofs.Taking.{Takes, Sets, one_more, takes_none, takes_either, takes_signed, takes_next}
-use Rattle.number_runs.proofs.Taking.{takes_of, sets_none, sets_no_words, sets_either, sets_signed, through_takes}
-use Rattle.number_runs.proofs.Taking.{scalar_takes, subscript_takes, unlocated_takes, list_takes, Fits, sets_two}
-use Rattle.number_runs.proofs.Taking.{narrow_taken, flag_taken, text_in_taken, named_taken, given_are, unset_taken}
-use Rattle.number_runs.proofs.Taking.{two_texts_taken}
+use Rattle.number_runs.proofs.Pointed.{by_pointed, compared_by}
+use Rattle.number_runs.proofs.Taking.{Fits, Sets, Takes, list_takes, one_more, scalar_takes, sets_either, sets_no_words}
+use Rattle.number_runs.proofs.Taking.{sets_none, sets_signed, sets_two, subscript_takes, takes_either, takes_next}
+use Rattle.number_runs.proofs.Taking.{takes_none, takes_of, through_takes, unlocated_takes, whole_takes}
+use Rattle.number_runs.proofs.Variables.{behind_number, sets_number}
+
+pub narrow_taken :
+    (s : Scope) (test : Y.LeafType → Bool) (r : Y.Reference) (t : Taken) → is_narrow_with s test r ≡ true →
+    Sets (reference_needs r) (reference_sets r) t (reference_takes t r)
+narrow_taken s test r t h =
+    let w = narrow_with_is s test r h in
+    subst (λ q. Sets (reference_needs q) (reference_sets q) t (reference_takes t q)) (sym w.is) (whole_takes t w.spot)
+
+flag_taken :
+    (s : Scope) (r : Y.Reference) (t : Taken) → is_narrow_with s is_bit r ≡ true → Sets 0 0 t (bit_takes t (Y.BitIn r))
+flag_taken s r t h =
+    let w = narrow_with_is s is_bit r h in
+    subst (λ q. Sets 0 0 t (reference_takes t q)) (sym w.is) (whole_takes t w.spot)
+
+text_in_taken :
+    (s : Scope) (r : Y.Reference) (t : Taken) → is_narrow_with s is_text_type r ≡ true →
+    Takes 0 t (text_takes t (Y.TextIn r))
+text_in_taken s r t h =
+    let w = narrow_with_is s is_text_type r h in
+    let x = whole_takes t w.spot in
+    let c = x.registers in
+    let u = x.words in
+    subst (λ q. Takes 0 t (reference_takes t q)) (sym w.is)
+    (record { registers = omega (arith, c); words = omega (arith, u) })
+
+named_taken :
+    (s : Scope) (r : Y.Reference) (t : Taken) →
+    (is_reference s r ≡ true) ⊎ (is_narrow_with s is_number_type r ≡ true) →
+    (is_reference s r ≡ true → Sets (reference_needs r) (reference_sets r) t (reference_takes t r)) →
+    Sets (reference_needs r) (reference_sets r) t (reference_takes t r)
+named_taken s r t (inl h) one = one h
+named_taken s r t (inr h) one = narrow_taken s is_number_type r t h
+
+given_are :
+    (s : Scope) (number level : ℕ) (xs : Y.Arguments) → is_number s (Y.NumberFrom (Y.Calling number level xs)) ≡ true →
+    are_arguments (without_located s) xs ≡ true
+given_are s number level Y.NoArgument h = refl
+given_are s number level (Y.ArgumentThen first rest) h =
+    let xs = Y.ArgumentThen first rest in
+    let taken = s.is_given_function (suc (argument_count rest)) level number in
+    let a = and_parts (gives_lists s) (taken && are_arguments (without_located s) xs) h in
+    (and_parts taken (are_arguments (without_located s) xs) a.1).1
+
+-- two names wait
+compared_taken :
+    (s : Scope) (equal : Bool) (left right : Y.Pointer) (t : Taken) → are_compared s left right ≡ true →
+    Sets 0 compared_sets t (bit_takes t (Y.PointersCompared equal left right))
+compared_taken s equal left right t h =
+    compared_by s (λ l r. Sets 0 compared_sets t (bit_takes t (Y.PointersCompared equal l r)))
+    (λ x. record { registers = omega arith; words = omega arith })
+    (λ x y. record { registers = omega arith; words = omega arith }) left right h
+
+-- a number takes no words where calls have no arguments
+unset_taken :
+    (s : Scope) (x : Y.Number) (t : Taken) → IsBare s → is_number s x ≡ true →
+    Sets (number_needs x) (number_sets x) t (number_takes t x) → Takes (number_needs x) t (number_takes t x)
+unset_taken s x t none h taken =
+    takes_of (number_needs x) (number_sets x) t (number_takes t x) (number_unset s x none h) taken
+
+two_texts_taken :
+    (left right : Y.Text) (t : Taken) → Takes (text_needs left) t (text_takes t left) →
+    Takes (text_needs right) t (text_takes t right) →
+    Sets (max (text_needs left) (text_needs right)) 0 t (most_taken (text_takes t left) (text_takes t right))
+two_texts_taken left right t x y =
+    sets_no_words (max (text_needs left) (text_needs right)) t (most_taken (text_takes t left) (text_takes t right))
+    (takes_either (text_needs left) (text_needs right) t (text_takes t left) (text_takes t right) x y)
 
 mutual
   pub number_taken :
@@ -169,9 +236,9 @@ mutual
   reference_taken s (Y.Referring v Y.NotLocated part (Y.NumberThen first (Y.NumberThen second rest))) t h fits =
       absurd (cc h)
   reference_taken s (Y.Referring v (Y.LocatedBy p) part Y.NoNumber) t h fits =
-      let w = through_is s v p part h in
+      let w = through_is s is_word_type v p part h in
       subst (λ r. Sets (reference_needs r) (reference_sets r) t (reference_takes t r)) (sym w.is)
-      (through_takes t w.pointer w.based)
+      (through_takes t w.pointer w.based w.member)
   reference_taken s (Y.Referring v (Y.LocatedBy p) part (Y.NumberThen first rest)) t h fits = absurd (cc h)
 
   numbers_taken :
@@ -215,7 +282,7 @@ mutual
       let a = and_parts (is_text g left) (is_text g right) (and_parts s.texts both h).1 in
       two_texts_taken left right t (text_taken g left t (refl, refl) a.0 (omega (arith, fits)))
       (text_taken g right t (refl, refl) a.1 (omega (arith, fits)))
-  test_taken s (Y.PointersCompared equal left right) t h fits = absurd (cc h)
+  test_taken s (Y.PointersCompared equal left right) t h fits = compared_taken s equal left right t h
   test_taken s (Y.OffsetsCompared equal left right) t h fits = absurd (cc h)
 
   -- texts wait on their stack
@@ -285,12 +352,28 @@ assigned_taken words s target (Y.StoredBit x) h g fits = absurd (cc g)
 assigned_taken words s target (Y.StoredPointer x) h g fits = absurd (cc g)
 assigned_taken words s target (Y.StoredOffset x) h g fits = absurd (cc g)
 
+-- a name waits, and so does the one by which a member is reached
+pointed_taken :
+    (words : ℕ) (s : Scope) (target : Y.Reference) (x : Y.Pointer) → is_pointed s target x ≡ true →
+    Sets (max 0 (reference_needs target)) (max (pointer_sets x) (name_sets + reference_sets target)) (set_aside words)
+    (assigned_takes (set_aside words) target (Y.StoredPointer x))
+pointed_taken words s target x h =
+    by_pointed s
+    (λ r p. Sets (max 0 (reference_needs r)) (max (pointer_sets p) (name_sets + reference_sets r)) (set_aside words)
+    (assigned_takes (set_aside words) r (Y.StoredPointer p))) (record {
+      null = λ may y known. record { registers = omega arith; words = omega arith };
+      copied = λ may y z known other. record { registers = omega arith; words = omega arith };
+      followed = λ may y p n m known other member. record { registers = omega arith; words = omega arith };
+      nulled = λ may c p n m known member. record { registers = omega arith; words = omega arith };
+      linked = λ may c p n m y known member other. record { registers = omega arith; words = omega arith };
+    }) target x h
+
 -- a scalar of fewer bits takes nothing itself
 narrowed_taken :
     (words : ℕ) (s : Scope) (target : Y.Reference) (source : Y.Stored) → is_narrowed s target source ≡ true →
     max (stored_needs source) (behind_stored source (reference_needs target)) ≤ held_registers →
     Sets (max (stored_needs source) (behind_stored source (reference_needs target)))
-    (max (stored_sets source) (reference_sets target))
+    (max (stored_sets source) (behind_sets source (reference_sets target)))
     (set_aside words) (assigned_takes (set_aside words) target source)
 narrowed_taken words s target (Y.StoredNumber precision x) h fits =
     let narrow = is_narrow_with s (has_precision precision) target in
@@ -323,7 +406,7 @@ narrowed_taken words s target (Y.StoredText x) h fits =
     let u = a.words in
     let v = b.words in
     record { registers = omega (arith, p, q); words = omega (arith, u, v) }
-narrowed_taken words s target (Y.StoredPointer x) h fits = absurd (cc h)
+narrowed_taken words s target (Y.StoredPointer x) h fits = pointed_taken words s target x h
 narrowed_taken words s target (Y.StoredOffset x) h fits = absurd (cc h)
 
 assignment_taken :
@@ -331,14 +414,17 @@ assignment_taken :
     ((is_reference s target && is_stored s source) ≡ true) ⊎ (is_narrowed s target source ≡ true) →
     max (stored_needs source) (behind_stored source (reference_needs target)) ≤ held_registers →
     Sets (max (stored_needs source) (behind_stored source (reference_needs target)))
-    (max (stored_sets source) (reference_sets target))
+    (max (stored_sets source) (behind_sets source (reference_sets target)))
     (set_aside words) (assigned_takes (set_aside words) target source)
 assignment_taken words s target source (inl h) fits =
     let b = and_parts (is_reference s target) (is_stored s source) h in
     let n = behind_number s source (reference_needs target) b.1 in
-    subst (λ m. Sets (max (stored_needs source) m) (max (stored_sets source) (reference_sets target))
+    subst (λ i. Sets (max (stored_needs source) (behind_stored source (reference_needs target)))
+    (max (stored_sets source) i) (set_aside words) (assigned_takes (set_aside words) target source))
+    (sym (sets_number s source (reference_sets target) b.1))
+    (subst (λ m. Sets (max (stored_needs source) m) (max (stored_sets source) (reference_sets target))
     (set_aside words) (assigned_takes (set_aside words) target source)) (sym n)
-    (assigned_taken words s target source b.0 b.1 (omega (arith, fits, n)))
+    (assigned_taken words s target source b.0 b.1 (omega (arith, fits, n))))
 assignment_taken words s target source (inr h) fits = narrowed_taken words s target source h fits
 
 condition_taken :
@@ -413,15 +499,14 @@ count_taken words s {v = v} {o = o} {n = n} {w = w} x body line fits inner =
 
 put_item_taken :
     (words : ℕ) (s : Scope) (i : Y.PutItem) → is_put_item s i ≡ true → put_item_needs i ≤ held_registers →
-    Takes (put_item_needs i) (set_aside words) (put_item_takes (set_aside words) i)
+    Sets (put_item_needs i) (put_item_sets i) (set_aside words) (put_item_takes (set_aside words) i)
 put_item_taken words s (Y.PutValue (Y.NumberValue precision x)) h fits =
-    takes_signed (number_needs x) (set_aside words) (number_takes (set_aside words) x) (omega arith)
-    (takes_of (number_needs x) (number_sets x) (set_aside words) (number_takes (set_aside words) x)
-    (number_unset (without_calls s) x (refl, refl) h)
-    (number_taken (without_calls s) x (set_aside words) h (omega (arith, fits))))
+    sets_signed (number_needs x) (number_sets x) (set_aside words) (number_takes (set_aside words) x) (omega arith)
+    (number_taken (without_functions s) x (set_aside words) h (omega (arith, fits)))
 put_item_taken words s (Y.PutValue (Y.TextValue x)) h fits =
-    text_taken (without_calls s) x (set_aside words) (refl, refl) (and_parts s.texts (is_text (without_calls s) x) h).1
-    (omega (arith, fits))
+    sets_no_words (text_needs x) (set_aside words) (text_takes (set_aside words) x)
+    (text_taken (without_calls s) x (set_aside words) (refl, refl) (and_parts s.texts (is_text (without_calls s) x) h).1
+    (omega (arith, fits)))
 put_item_taken words s (Y.PutValue (Y.BitValue x)) h fits = absurd (cc h)
 put_item_taken words s (Y.PutValue (Y.PointerValue x)) h fits = absurd (cc h)
 put_item_taken words s (Y.PutValue (Y.OffsetValue area x)) h fits = absurd (cc h)
@@ -430,36 +515,39 @@ put_item_taken words s (Y.PutAggregate r) h fits = absurd (cc h)
 
 put_items_taken :
     (words : ℕ) (s : Scope) (is : List Y.PutItem) → are_put_items s is ≡ true → put_items_need is ≤ held_registers →
-    Takes (put_items_need is) (set_aside words) (put_items_take (set_aside words) is)
-put_items_taken words s [] h fits = takes_none (set_aside words)
+    Sets (put_items_need is) (put_items_set is) (set_aside words) (put_items_take (set_aside words) is)
+put_items_taken words s [] h fits = sets_none (set_aside words)
 put_items_taken words s (i ∷ is) h fits =
     let a = and_parts (is_put_item s i) (are_put_items s is) h in
-    takes_either (put_item_needs i) (put_items_need is) (set_aside words) (put_item_takes (set_aside words) i)
+    sets_either (put_item_needs i) (put_items_need is) (put_item_sets i) (put_items_set is) (set_aside words)
+    (put_item_takes (set_aside words) i)
     (put_items_take (set_aside words) is) (put_item_taken words s i a.0 (omega (arith, fits)))
     (put_items_taken words s is a.1 (omega (arith, fits)))
 
 put_list_taken :
     (words : ℕ) (s : Scope) (is : List Y.PutItem) → is_put_list s is ≡ true → put_items_need is ≤ held_registers →
-    Takes (put_items_need is) (set_aside words) (put_items_take (set_aside words) is)
+    Sets (put_items_need is) (put_items_set is) (set_aside words) (put_items_take (set_aside words) is)
 put_list_taken words s [] h fits = absurd (cc h)
 put_list_taken words s (i ∷ is) h fits = put_items_taken words s (i ∷ is) h fits
 
 pairs_taken :
     (words : ℕ) (s : Scope) (ps : List Y.PutPair) → are_pairs s ps ≡ true → put_needs ps ≤ held_registers →
-    Takes (put_needs ps) (set_aside words) (put_takes (set_aside words) ps)
-pairs_taken words s [] h fits = takes_none (set_aside words)
+    Sets (put_needs ps) (put_sets ps) (set_aside words) (put_takes (set_aside words) ps)
+pairs_taken words s [] h fits = sets_none (set_aside words)
 pairs_taken words s (p ∷ ps) h fits =
     let by = is_list p.formats && are_shown p.formats p.items in
     let a = and_parts (is_put_list s p.items && by) (are_pairs s ps) h in
     let b = and_parts (is_put_list s p.items) by a.0 in
-    takes_either (put_items_need p.items) (put_needs ps) (set_aside words) (put_items_take (set_aside words) p.items)
+    sets_either (put_items_need p.items) (put_needs ps) (put_items_set p.items) (put_sets ps) (set_aside words)
+    (put_items_take (set_aside words) p.items)
     (put_takes (set_aside words) ps) (put_list_taken words s p.items b.0 (omega (arith, fits)))
     (pairs_taken words s ps a.1 (omega (arith, fits)))
 
 put_taken :
     (words : ℕ) (s : Scope) (skip : Option ℕ) (pairs : List Y.PutPair) → is_put s skip pairs ≡ true →
-    put_needs pairs ≤ held_registers → Takes (put_needs pairs) (set_aside words) (put_takes (set_aside words) pairs)
-put_taken words s skip [] h fits = takes_none (set_aside words)
+    put_needs pairs ≤ held_registers →
+    Sets (put_needs pairs) (put_sets pairs) (set_aside words) (put_takes (set_aside words) pairs)
+put_taken words s skip [] h fits = sets_none (set_aside words)
 put_taken words s skip (p ∷ ps) h fits =
     let a = and_parts (is_skip skip) (s.puts && are_pairs s (p ∷ ps)) h in
     pairs_taken words s (p ∷ ps) (and_parts s.puts (are_pairs s (p ∷ ps)) a.1).1 fits
@@ -591,8 +679,7 @@ mutual
       freeing_taken words s all (and_parts (is_line line) (is_freeing s all) h).1
   statement_taken words s valued labels (Y.Get skip pairs line) h fits = absurd (cc h)
   statement_taken words s valued labels (Y.Put skip pairs line) h fits =
-      sets_no_words (put_needs pairs) (set_aside words) (put_takes (set_aside words) pairs)
-      (put_taken words s skip pairs (and_parts (is_line line) (is_put s skip pairs) h).1 fits)
+      put_taken words s skip pairs (and_parts (is_line line) (is_put s skip pairs) h).1 fits
 
   pub statements_taken :
       (words : ℕ) (s : Scope) (valued : Bool) (labels : List Label) (xs : Y.Stmts) → are_statements s valued labels xs

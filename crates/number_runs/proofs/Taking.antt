@@ -1,27 +1,15 @@
--- Temporaries that parts take together: as many registers as are needed, and so many words of the frame.
-use Rattle.std.proofs.Common.{◌≡◌, ◌⊎◌, inl, inr, ℕ, suc, ◌+◌, ◌<◌, ◌≤◌, true, refl, sym}
-use Rattle.std.proofs.Common.{ap, subst, arith}
-use Rattle.std.specs.Prelude.{◌&&◌, Bool, max, if◌then◌else◌}
-use Rattle.std.proofs.lemmas.Bool.{and_parts, lt-ltb}
+-- What takes so many registers and so many words of the frame, and what several together take.
+use Rattle.std.proofs.Common.{◌≡◌, ◌⊎◌, inl, inr, ℕ, suc, ◌+◌, ◌<◌, ◌≤◌, true, refl, sym, ap, subst, arith}
+use Rattle.std.specs.Prelude.{max, if◌then◌else◌}
+use Rattle.std.proofs.lemmas.Bool.{lt-ltb}
 use Rattle.pli_typing.specs.TypedTree as Y
-use Rattle.pli_coding.specs.Expressions.{argument_count}
 use Rattle.pli_coding.specs.Environments.{Taken, most_taken, with_number, with_words}
 use Rattle.pli_coding.specs.Registers.{held_registers}
-use Rattle.pli_coding.specs.Temporaries.{bit_takes, number_takes}
-use Rattle.pli_coding.specs.Temporaries.{reference_takes, text_takes}
+use Rattle.pli_coding.specs.Temporaries.{reference_takes}
 use Rattle.expression_runs.specs.Variables.{Spot, whole}
-use Rattle.area_runs.specs.Based.{through}
 use Rattle.argument_runs.specs.Parameters.{parameter}
-use Rattle.number_runs.specs.Numbers.{Scope, are_arguments}
-use Rattle.number_runs.specs.Numbers.{gives_lists}
-use Rattle.number_runs.specs.Numbers.{is_given, is_number, is_reference}
-use Rattle.number_runs.specs.Numbers.{is_variable, number_needs, number_sets}
-use Rattle.number_runs.specs.Numbers.{reference_needs, reference_sets}
-use Rattle.number_runs.specs.Narrow.{is_bit, is_number_type, is_text_type}
-use Rattle.number_runs.specs.Numbers.{is_narrow_with, text_needs}
-use Rattle.number_runs.specs.Numbers.{IsBare, without_located}
-use Rattle.number_runs.proofs.Narrow.{narrow_with_is}
-use Rattle.number_runs.proofs.Unset.{number_unset}
+use Rattle.member_runs.specs.Members.{member_of}
+use Rattle.number_runs.specs.Numbers.{Scope, is_given, is_variable}
 use Rattle.number_runs.proofs.Variables.{parameter_is, variable_is}
 
 -- as many registers more as are needed, at least, and no words
@@ -130,8 +118,8 @@ pub parameter_takes : (t : Taken) (x : Spot) → Sets 0 0 t (reference_takes t (
 parameter_takes t x = record { registers = omega arith; words = omega arith }
 
 -- the words of a name, and of the number of its signature
-pub through_takes : (t : Taken) (p n : Spot) → Sets 0 5 t (reference_takes t (through p n))
-through_takes t p n = record { registers = omega arith; words = omega arith }
+pub through_takes : (t : Taken) (p n : Spot) (m : ℕ) → Sets 0 5 t (reference_takes t (member_of p n m))
+through_takes t p n m = record { registers = omega arith; words = omega arith }
 
 pub scalar_takes :
     (s : Scope) (r : Y.Reference) (t : Taken) → (is_variable s r ≡ true) ⊎ (is_given s r ≡ true) →
@@ -177,60 +165,3 @@ pub sets_two :
 sets_two m n p q t a take fits x y =
     subst (λ t'. Sets (max m (suc n)) (max p q) t (most_taken a (take t')))
     (sym (next_number t (omega (arith, fits)))) (sets_both m n p q t a (take (one_more t)) x y)
-
-pub narrow_taken :
-    (s : Scope) (test : Y.LeafType → Bool) (r : Y.Reference) (t : Taken) → is_narrow_with s test r ≡ true →
-    Sets (reference_needs r) (reference_sets r) t (reference_takes t r)
-narrow_taken s test r t h =
-    let w = narrow_with_is s test r h in
-    subst (λ q. Sets (reference_needs q) (reference_sets q) t (reference_takes t q)) (sym w.is) (whole_takes t w.spot)
-
-pub flag_taken :
-    (s : Scope) (r : Y.Reference) (t : Taken) → is_narrow_with s is_bit r ≡ true → Sets 0 0 t (bit_takes t (Y.BitIn r))
-flag_taken s r t h =
-    let w = narrow_with_is s is_bit r h in
-    subst (λ q. Sets 0 0 t (reference_takes t q)) (sym w.is) (whole_takes t w.spot)
-
-pub text_in_taken :
-    (s : Scope) (r : Y.Reference) (t : Taken) → is_narrow_with s is_text_type r ≡ true →
-    Takes 0 t (text_takes t (Y.TextIn r))
-text_in_taken s r t h =
-    let w = narrow_with_is s is_text_type r h in
-    let x = whole_takes t w.spot in
-    let c = x.registers in
-    let u = x.words in
-    subst (λ q. Takes 0 t (reference_takes t q)) (sym w.is)
-    (record { registers = omega (arith, c); words = omega (arith, u) })
-
-pub named_taken :
-    (s : Scope) (r : Y.Reference) (t : Taken) →
-    (is_reference s r ≡ true) ⊎ (is_narrow_with s is_number_type r ≡ true) →
-    (is_reference s r ≡ true → Sets (reference_needs r) (reference_sets r) t (reference_takes t r)) →
-    Sets (reference_needs r) (reference_sets r) t (reference_takes t r)
-named_taken s r t (inl h) one = one h
-named_taken s r t (inr h) one = narrow_taken s is_number_type r t h
-
-pub given_are :
-    (s : Scope) (number level : ℕ) (xs : Y.Arguments) → is_number s (Y.NumberFrom (Y.Calling number level xs)) ≡ true →
-    are_arguments (without_located s) xs ≡ true
-given_are s number level Y.NoArgument h = refl
-given_are s number level (Y.ArgumentThen first rest) h =
-    let xs = Y.ArgumentThen first rest in
-    let taken = s.is_given_function (suc (argument_count rest)) level number in
-    let a = and_parts (gives_lists s) (taken && are_arguments (without_located s) xs) h in
-    (and_parts taken (are_arguments (without_located s) xs) a.1).1
-
--- a number takes no words where calls have no arguments
-pub unset_taken :
-    (s : Scope) (x : Y.Number) (t : Taken) → IsBare s → is_number s x ≡ true →
-    Sets (number_needs x) (number_sets x) t (number_takes t x) → Takes (number_needs x) t (number_takes t x)
-unset_taken s x t none h taken =
-    takes_of (number_needs x) (number_sets x) t (number_takes t x) (number_unset s x none h) taken
-
-pub two_texts_taken :
-    (left right : Y.Text) (t : Taken) → Takes (text_needs left) t (text_takes t left) →
-    Takes (text_needs right) t (text_takes t right) →
-    Sets (max (text_needs left) (text_needs right)) 0 t (most_taken (text_takes t left) (text_takes t right))
-two_texts_taken left right t x y =
-    sets_no_words (max (text_needs left) (text_needs right)) t (most_taken (text_takes t left) (text_takes t right))
-    (takes_either (text_needs left) (text_needs right) t (text_takes t left) (text_takes t right) x y)

@@ -97,6 +97,12 @@ pub telling_same :
 telling_same k φ φs newest =
     ap (λ ls. record k { first = record k.first { control = record k.first.control { layers = ls } } }) (sym newest)
 
+-- where nothing is located as much is known
+puts_bare : {s : Scope} {k : Block} {most : ℕ} → s.locates ≡ false → KnowsPuts (without_located s) k most →
+    KnowsPuts s k most
+puts_bare {s} none h =
+    record { numbers = h.numbers; error = h.error; lists = h.lists; located = λ may. absurd (cc (sym none ∙ may)) }
+
 pub ready_told :
     {s : Scope} {valued : Bool} {k : Block} {labels : List Label} {most left' : ℕ}
     (r : IsReady s valued k labels most left') (c : s.counts ≡ true) → s.locates ≡ false → (waits : ℕ → Option ℕ)
@@ -121,7 +127,7 @@ ready_told {s} {k = k} r c none waits behind free =
       jumps = l.jumps waits;
       texts = l.texts waits;
       signals = l.signals waits;
-      puts = l.puts waits;
+      puts = λ may. puts_bare none (l.puts waits may);
       loops = λ c'. record {
         layer = with_waits waits l.layer;
         others = l.others;
@@ -179,7 +185,8 @@ given_unlocated :
 given_unlocated h = record { passable = h.passable; functions = h.functions; procedures = h.procedures }
 
 puts_unlocated : {s : Scope} {k : Block} {most : ℕ} → KnowsPuts s k most → KnowsPuts (without_located s) k most
-puts_unlocated h = record { numbers = h.numbers; error = h.error; lists = h.lists }
+puts_unlocated h =
+    record { numbers = h.numbers; error = h.error; lists = h.lists; located = λ may. absurd (cc may) }
 
 home_unlocated :
     {s : Scope} {valued : Bool} {k : Block} {left' : ℕ} → IsHome s valued k left' →
@@ -222,7 +229,7 @@ ready_unlocated r =
         jumps = l.jumps;
         signals = l.signals;
         texts = λ waits may'. around_unlocated (l.texts waits may');
-        puts = λ waits may'. puts_unlocated (l.puts waits may');
+        puts = λ waits may'. l.puts waits may';
       };
       room = r.room;
       home = λ may. home_unlocated (r.home may);

@@ -1,7 +1,7 @@
 -- Where no loop may count, no call has an argument, and nothing that is BASED is reached, statements set no words of
 -- the frame aside.
 use Rattle.std.proofs.Common.{◌≡◌, ◌⊎◌, inl, inr, ℕ, ◌≤◌, List, [], ◌++◌, true, false, refl, sym, ◌∙◌, arith}
-use Rattle.std.specs.Prelude.{◌&&◌, ◌||◌, ◌==◌, Bool, max, None, Option, Some, suc}
+use Rattle.std.specs.Prelude.{◌&&◌, ◌||◌, ◌==◌, Bool, max, None, Option, Some, suc, ◌∷◌}
 use Rattle.std.proofs.lemmas.Bool.{and_parts, or_cases}
 use Rattle.pli_typing.specs.TypedTree as Y
 use Rattle.pli_coding.specs.Expressions.{argument_count}
@@ -16,13 +16,17 @@ use Rattle.number_runs.specs.Narrow.{has_precision, is_bit, is_text_type}
 use Rattle.number_runs.specs.Numbers.{Scope, are_arguments, gives_lists, is_fixed, is_number, is_reference, is_test}
 use Rattle.number_runs.specs.Numbers.{is_narrow_with, reference_sets, is_text, without_given, IsBare, without_located}
 use Rattle.number_runs.specs.Statements.{are_statements, is_line, is_statement, is_stored, statement_needs}
-use Rattle.number_runs.specs.Statements.{is_allocation, is_freeing}
+use Rattle.number_runs.specs.Statements.{behind_sets, is_allocation, is_freeing}
 use Rattle.number_runs.specs.Statements.{is_narrowed, statement_sets, statements_need, statements_set, stored_sets}
 use Rattle.number_runs.specs.Variables.{are_plain}
 use Rattle.number_runs.proofs.Taking.{Takes}
 use Rattle.number_runs.proofs.Takes.{statement_taken, statements_taken}
+use Rattle.number_runs.specs.Puts.{are_pairs, are_put_items, are_shown, is_list, is_put, is_put_item, is_put_list}
+use Rattle.number_runs.specs.Puts.{is_skip, put_item_sets, put_items_set, put_sets, without_functions}
 use Rattle.number_runs.proofs.BlocksTaken.{block_sets, plain_known}
 use Rattle.number_runs.proofs.Based.{allocation_is, freeing_is}
+use Rattle.number_runs.proofs.Pointed.{pointed_may}
+use Rattle.number_runs.proofs.Variables.{sets_number}
 use Rattle.number_runs.proofs.Unset.{narrow_unset, number_unset, reference_unset, test_unset}
 
 stored_unset : (s : Scope) (x : Y.Stored) → IsBare s → is_stored s x ≡ true → stored_sets x ≡ 0
@@ -30,12 +34,12 @@ stored_unset s (Y.StoredNumber precision x) none h =
     number_unset s x none (and_parts (precision == 31) (is_number s x) h).1
 stored_unset s (Y.StoredText x) none h = refl
 stored_unset s (Y.StoredBit x) none h = absurd (cc h)
-stored_unset s (Y.StoredPointer x) none h = refl
+stored_unset s (Y.StoredPointer x) none h = absurd (cc h)
 stored_unset s (Y.StoredOffset x) none h = refl
 
 narrowed_unset :
     (s : Scope) (target : Y.Reference) (source : Y.Stored) → IsBare s → is_narrowed s target source ≡ true →
-    max (stored_sets source) (reference_sets target) ≡ 0
+    max (stored_sets source) (behind_sets source (reference_sets target)) ≡ 0
 narrowed_unset s target (Y.StoredNumber precision x) none h =
     let narrow = is_narrow_with s (has_precision precision) target in
     let a = and_parts s.overflows (narrow && is_number s x) h in
@@ -53,23 +57,62 @@ narrowed_unset s target (Y.StoredText x) none h =
     let one = is_text (without_given s) x in
     let n = narrow_unset s is_text_type target (and_parts narrow one (and_parts s.texts (narrow && one) h).1).0 in
     omega (arith, n)
-narrowed_unset s target (Y.StoredPointer x) none h = absurd (cc h)
+narrowed_unset s target (Y.StoredPointer x) none h =
+    absurd (cc (sym none.1 ∙ pointed_may s target x h))
 narrowed_unset s target (Y.StoredOffset x) none h = absurd (cc h)
 
 assigned_unset :
     (s : Scope) (target : Y.Reference) (source : Y.Stored) → IsBare s →
     ((is_reference s target && is_stored s source) ≡ true) ⊎ (is_narrowed s target source ≡ true) →
-    max (stored_sets source) (reference_sets target) ≡ 0
+    max (stored_sets source) (behind_sets source (reference_sets target)) ≡ 0
 assigned_unset s target source none (inl h) =
     let b = and_parts (is_reference s target) (is_stored s source) h in
     let m = reference_unset s target none b.0 in
     let n = stored_unset s source none b.1 in
-    omega (arith, m, n)
+    let e = sets_number s source (reference_sets target) b.1 in
+    omega (arith, m, n, e)
 assigned_unset s target source none (inr h) = narrowed_unset s target source none h
 
 condition_unset : (s : Scope) (o : Option Y.Bit) → IsBare s → is_condition s o ≡ true → condition_sets o ≡ 0
 condition_unset s None none h = refl
 condition_unset s (Some x) none h = test_unset s x none h
+
+item_unset : (s : Scope) (i : Y.PutItem) → IsBare s → is_put_item s i ≡ true → put_item_sets i ≡ 0
+item_unset s (Y.PutValue (Y.NumberValue precision x)) none h = number_unset (without_functions s) x (refl, none.1) h
+item_unset s (Y.PutValue (Y.TextValue x)) none h = refl
+item_unset s (Y.PutValue (Y.BitValue x)) none h = refl
+item_unset s (Y.PutValue (Y.PointerValue x)) none h = refl
+item_unset s (Y.PutValue (Y.OffsetValue area x)) none h = refl
+item_unset s (Y.PutValue Y.NullValue) none h = refl
+item_unset s (Y.PutAggregate r) none h = refl
+
+items_unset : (s : Scope) (is : List Y.PutItem) → IsBare s → are_put_items s is ≡ true → put_items_set is ≡ 0
+items_unset s [] none h = refl
+items_unset s (i ∷ is) none h =
+    let a = and_parts (is_put_item s i) (are_put_items s is) h in
+    let m = item_unset s i none a.0 in
+    let n = items_unset s is none a.1 in
+    omega (arith, m, n)
+
+list_unset : (s : Scope) (is : List Y.PutItem) → IsBare s → is_put_list s is ≡ true → put_items_set is ≡ 0
+list_unset s [] none h = refl
+list_unset s (i ∷ is) none h = items_unset s (i ∷ is) none h
+
+pairs_unset : (s : Scope) (ps : List Y.PutPair) → IsBare s → are_pairs s ps ≡ true → put_sets ps ≡ 0
+pairs_unset s [] none h = refl
+pairs_unset s (p ∷ ps) none h =
+    let by = is_list p.formats && are_shown p.formats p.items in
+    let a = and_parts (is_put_list s p.items && by) (are_pairs s ps) h in
+    let m = list_unset s p.items none (and_parts (is_put_list s p.items) by a.0).0 in
+    let n = pairs_unset s ps none a.1 in
+    omega (arith, m, n)
+
+put_unset :
+    (s : Scope) (skip : Option ℕ) (pairs : List Y.PutPair) → IsBare s → is_put s skip pairs ≡ true → put_sets pairs ≡ 0
+put_unset s skip [] none h = refl
+put_unset s skip (p ∷ ps) none h =
+    let a = and_parts (is_skip skip) (s.puts && are_pairs s (p ∷ ps)) h in
+    pairs_unset s (p ∷ ps) none (and_parts s.puts (are_pairs s (p ∷ ps)) a.1).1
 
 mutual
   statement_uncounted :
@@ -137,7 +180,8 @@ mutual
       let a = and_parts (is_line line) (is_freeing s all) h in
       absurd (cc (sym none.1.1 ∙ (freeing_is s all a.1).may))
   statement_uncounted s valued labels (Y.Get skip pairs line) none h = refl
-  statement_uncounted s valued labels (Y.Put skip pairs line) none h = refl
+  statement_uncounted s valued labels (Y.Put skip pairs line) none h =
+      put_unset s skip pairs none.1 (and_parts (is_line line) (is_put s skip pairs) h).1
   statement_uncounted s valued labels (Y.Null line) none h = refl
   statement_uncounted s valued labels (Y.Assign target source line) none h =
       let one = is_reference s target && is_stored s source in

@@ -9,8 +9,10 @@ use Rattle.number_runs.specs.Numbers.{is_number, is_reference}
 use Rattle.number_runs.specs.Numbers.{is_test, may_calculate, number_sets, numbers_set, reference_sets, test_sets}
 use Rattle.number_runs.specs.Numbers.{is_narrow_with, is_wider, IsBare, without_located}
 use Rattle.number_runs.specs.Narrow.{is_number_type}
+use Rattle.number_runs.specs.Based.{is_word_type}
 use Rattle.number_runs.proofs.Based.{through_is}
 use Rattle.number_runs.proofs.Narrow.{narrow_with_is}
+use Rattle.number_runs.proofs.Pointed.{compared_may}
 
 call_unset :
     (s : Scope) (c : Y.Call) → IsBare s → is_number s (Y.NumberFrom c) ≡ true → call_sets c ≡ 0
@@ -91,7 +93,7 @@ mutual
   reference_unset s (Y.Referring v Y.NotLocated part (Y.NumberThen first (Y.NumberThen second rest))) none h =
       absurd (cc h)
   reference_unset s (Y.Referring v (Y.LocatedBy p) part Y.NoNumber) none h =
-      absurd (cc (sym none.1 ∙ (through_is s v p part h).may))
+      absurd (cc (sym none.1 ∙ (through_is s is_word_type v p part h).may))
   reference_unset s (Y.Referring v (Y.LocatedBy p) part (Y.NumberThen first rest)) none h = absurd (cc h)
 
   numbers_unset :
@@ -125,5 +127,6 @@ mutual
   test_unset s (Y.BitFrom c) none h = refl
   test_unset s (Y.BitOfText x) none h = refl
   test_unset s (Y.TextsCompared comparison left right) none h = refl
-  test_unset s (Y.PointersCompared equal left right) none h = refl
+  test_unset s (Y.PointersCompared equal left right) none h =
+      absurd (cc (sym none.1 ∙ compared_may s left right h))
   test_unset s (Y.OffsetsCompared equal left right) none h = refl

@@ -17,7 +17,7 @@ use Rattle.number_runs.specs.Initial.{are_values, values_in, values_of}
 use Rattle.number_runs.specs.Numbers.{is_argument, is_number, is_number_leaf, is_one_number, is_one_word, is_parameter}
 use Rattle.number_runs.specs.Numbers.{is_parameter_class, is_passed, is_plain}
 use Rattle.number_runs.specs.Numbers.{is_received, is_scalar, is_variable, is_word, spot_of}
-use Rattle.number_runs.specs.Statements.{behind_stored, is_stored}
+use Rattle.number_runs.specs.Statements.{behind_sets, behind_stored, is_stored}
 
 -- ---- references
 
@@ -297,7 +297,16 @@ ways_stored s names (Y.ArgumentThen first rest) h =
 
 -- ---- what is stored
 
--- a number waits in a register
+-- a number waits in no words
+pub sets_number :
+    (s : Scope) (x : Y.Stored) (sets : ℕ) → is_stored s x ≡ true → behind_sets x sets ≡ sets
+sets_number s (Y.StoredNumber precision x) sets h = refl
+sets_number s (Y.StoredText x) sets h = refl
+sets_number s (Y.StoredBit x) sets h = refl
+sets_number s (Y.StoredPointer x) sets h = absurd (cc h)
+sets_number s (Y.StoredOffset x) sets h = refl
+
+-- but in a register
 pub behind_number :
     (s : Scope) (x : Y.Stored) (need : ℕ) → is_stored s x ≡ true → behind_stored x need ≡ suc need
 behind_number s (Y.StoredNumber precision x) need h = refl

@@ -116,6 +116,7 @@ numbers_wait {s} {k} entries none h t =
       functions = w.functions;
       texts = λ may. texts_wait entries t;
       given = λ may. absurd (cc (sym none.0 ∙ (and_parts s.gives s.counts may).0));
+      pointers = λ may. absurd (cc (sym none.1 ∙ may));
       located = λ may. absurd (cc (sym none.1 ∙ may));
     }
 
@@ -153,6 +154,7 @@ numbers_without h =
       functions = h.functions;
       texts = λ may. texts_without (h.texts may);
       given = λ may. absurd (cc may);
+      pointers = λ may. absurd (cc may);
       located = λ may. absurd (cc may);
     }
 

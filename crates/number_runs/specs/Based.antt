@@ -1,6 +1,7 @@
--- What pointers lead to: FIXED BINARY(31) variables that are BASED, the POINTER variables that locate them, and the
--- areas of constant size in which they are allocated.
-use Rattle.std.specs.Prelude.{◌^◌, ◌==◌, ◌&&◌, Bool, false, true, List, [], ◌∷◌, nat_le, Option, None, Some, pos}
+-- What pointers lead to: BASED variables, FIXED BINARY(31) ones or structures of such members and pointers, the POINTER
+-- variables that locate them, and the areas of constant size in which they are allocated.
+use Rattle.std.specs.Prelude.{ℕ, ◌^◌, ◌==◌, ◌&&◌, ◌||◌, Bool, false, true, List, [], ◌∷◌, nat_le, nat_lt, slice_get}
+use Rattle.std.specs.Prelude.{Option, None, Some, pos}
 use Rattle.pli_language.specs.Tree as T
 use Rattle.pli_typing.specs.TypedTree as Y
 
@@ -39,6 +40,24 @@ abbrev pub is_word_type : Y.LeafType → Bool
 is_word_type (Y.FixedLeaf precision) = precision == 31
 is_word_type _ = false
 
+-- ---- their members
+
+-- to which nothing is given
+abbrev pub are_members : List Y.Leaf → Bool
+are_members [] = true
+are_members (l ∷ ls) =
+    is_one_leaf (λ t. is_word_type t || is_pointer_type t) l.type l.bounds l.initial && are_members ls
+
+-- one at least
+abbrev pub are_some_members : List Y.Leaf → Bool
+are_some_members [] = false
+are_some_members (l ∷ ls) = are_members (l ∷ ls)
+
+-- no extent is told by REFER, or evaluated
+abbrev pub is_closed : Option Y.ReferMember → List Y.Evaluation → Bool
+is_closed None [] = true
+is_closed _ _ = false
+
 -- ---- what is declared
 
 abbrev pub is_pointer : Y.DeclaredVariable → Bool
@@ -48,7 +67,15 @@ abbrev pub is_area : Y.DeclaredVariable → Bool
 is_area d = is_made_class d.class && is_one_of is_area_type d.members d.leaves d.refer d.evaluations
 
 abbrev pub is_based : Y.DeclaredVariable → Bool
-is_based d = is_based_class d.class && is_one_of is_word_type d.members d.leaves d.refer d.evaluations
+is_based d = is_based_class d.class && (are_some_members d.leaves && is_closed d.refer d.evaluations)
+
+-- a member of one, by its number, whose type passes a test
+abbrev pub passes : (Y.LeafType → Bool) → Option Y.Leaf → Bool
+passes test None = false
+passes test (Some l) = test l.type
+
+abbrev pub has_member : (Y.LeafType → Bool) → ℕ → Y.DeclaredVariable → Bool
+has_member test n d = is_based d && (nat_lt n (2 ^ 31) && passes test (slice_get d.leaves n))
 
 -- ---- where there may be none
 
@@ -63,3 +90,7 @@ is_area_if (Some d) = is_area d
 abbrev pub is_based_if : Option Y.DeclaredVariable → Bool
 is_based_if None = false
 is_based_if (Some d) = is_based d
+
+abbrev pub has_member_if : (Y.LeafType → Bool) → ℕ → Option Y.DeclaredVariable → Bool
+has_member_if test n None = false
+has_member_if test n (Some d) = has_member test n d

@@ -35,7 +35,7 @@ use Rattle.operator_runs.specs.Divisors.{ZeroDivideComes}
 use Rattle.text_runs.specs.Texts.{ErrorComes}
 use Rattle.text_runs.specs.Waiting.{over}
 use Rattle.text_values.specs.Variables.{KnowsText}
-use Rattle.edit_runs.specs.Edits.{KnowsFormats, within}
+use Rattle.edit_runs.specs.Edits.{KnowsFormats, placing, within}
 use Rattle.program_places.specs.Laws.{IsLabel}
 use Rattle.program_places.specs.Placed.{Placed}
 use Rattle.counter_runs.specs.Words.{telling}
@@ -46,14 +46,18 @@ use Rattle.list_calls.specs.Arguments.{EachGives, Way, arguments_of, setting_tol
 use Rattle.list_calls.specs.ListKnown.{AreStored, IsStored}
 use Rattle.list_calls.specs.Passed.{IsNamed}
 use Rattle.area_runs.specs.Allocations.{allocation}
-use Rattle.area_runs.specs.Based.{through}
-use Rattle.area_runs.specs.BasedAssignments as B
 use Rattle.area_assignments.specs.Copying.{copying}
 use Rattle.area_assignments.specs.Emptying.{emptying}
 use Rattle.area_freeings.specs.Freeing.{freeing}
+use Rattle.locator_runs.specs.Pointers.{IsPointer}
+use Rattle.member_runs.specs.MemberAssignments as M
+use Rattle.member_runs.specs.MemberPointers.{following, linking, nulling}
+use Rattle.member_runs.specs.Members.{member_of}
 use Rattle.scalar_runs.specs.Scalars.{IsScalar}
 use Rattle.number_runs.specs.Numbers.{Scope, bounds_known, is_array_known, is_known, is_narrow_known, is_received}
+use Rattle.number_runs.specs.Based.{is_pointer_type, is_word_type}
 use Rattle.number_runs.specs.Numbers.{gives_lists, type_known, is_area_known, is_based_known, is_pointer_known}
+use Rattle.number_runs.specs.Numbers.{is_member_known, without_located}
 use Rattle.number_runs.specs.Puts.{without_calls, is_list}
 
 -- ---- around expressions
@@ -163,9 +167,10 @@ pub record KnowsNumbers (s : Scope) (k : Setting) : Type 0 where
   pub functions : (level n : ℕ) → s.is_function level n ≡ true → L.Does k 0 (call_number level n)
   pub texts : s.texts ≡ true → KnowsTexts s k
   pub given : gives_lists s ≡ true → KnowsGiven s k
+  pub pointers : s.locates ≡ true → (x : Spot) → is_pointer_known s x ≡ true → IsPointer k.block x
   pub located :
-      s.locates ≡ true → (p n : Spot) → is_pointer_known s p ≡ true → is_based_known s n ≡ true →
-      L.Does k 0 (Y.NumberIn (through p n))
+      s.locates ≡ true → (p n : Spot) (m : ℕ) → is_pointer_known s p ≡ true →
+      is_member_known s is_word_type n m ≡ true → L.Does k 0 (Y.NumberIn (member_of p n m))
   pub codes : s.codes ≡ true → HasCode k.block
 
 -- so many words are left for lists behind those that are set aside
@@ -242,6 +247,14 @@ given_statement level n line ways = Y.CallProcedure (given_call level n ways) li
 abbrev pub MayBeSet : Scope → (words : ℕ) → Type 0
 MayBeSet s words = (words ≤ most_set) × (s.counts ≡ false → words ≡ 0)
 
+-- pointers are known while a place in a format list is in use, and members of what they lead to are read there
+pub record KnowsPlaced (s : Scope) (k : Block) (most : ℕ) : Type 0 where
+  pub pointers : (place : EditPlace) (x : Spot) → is_pointer_known s x ≡ true → IsPointer (placing place k) x
+  pub reads :
+      (words : ℕ) (place : EditPlace) (labels : List Label) (line : ℕ) (p n : Spot) (m : ℕ) →
+      is_pointer_known s p ≡ true → is_member_known s is_word_type n m ≡ true →
+      L.Does (within place (setting_around words k labels line most)) 0 (Y.NumberIn (member_of p n m))
+
 -- around what is written as much is known while a place in a format list is in use, an ERROR there comes to what it
 -- means, and the lists are known
 pub record KnowsPuts (s : Scope) (k : Block) (most : ℕ) : Type 0 where
@@ -252,6 +265,7 @@ pub record KnowsPuts (s : Scope) (k : Block) (most : ℕ) : Type 0 where
       (words : ℕ) → MayBeSet s words → (place : EditPlace) (labels : List Label) (line : ℕ) →
       ErrorComes (List ℕ) (within place (setting_around words k labels line most))
   pub lists : KnowsLists k
+  pub located : s.locates ≡ true → KnowsPlaced s k most
 
 -- raises in its statements come to what they mean, also where a unit goes on at a label of the block's own list
 pub record KnowsRaises (s : Scope) (k : Block) (own : List Label) (most : ℕ) : Type 0 where
@@ -312,20 +326,43 @@ pub record KnowsAroundTexts (s : Scope) (k : Block) (own : List Label) (most : �
       (words : ℕ) → MayBeSet s words → (line : ℕ) (entries : List Entry) →
       KnowsWaiting s (setting_around words (waiting entries k) [] line most)
 
--- what is BASED is read and assigned by pointers, allocated and freed, and areas are assigned, as all of these mean,
--- where no words are set aside
+-- pointers are known, what is BASED is read and assigned by them, a member that is one is followed and linked, what is
+-- BASED is allocated and freed, and areas are assigned, as all of these mean, where no words are set aside
 pub record KnowsBased (s : Scope) (k : Block) (own : List Label) (most left' : ℕ) : Type 0 where
+  pub pointers : (x : Spot) → is_pointer_known s x ≡ true → IsPointer k x
   pub reads :
-      (labels : List Label) (line : ℕ) (p n : Spot) → Includes own labels → is_pointer_known s p ≡ true →
-      is_based_known s n ≡ true → L.Does (setting_around 0 k labels line most) 0 (Y.NumberIn (through p n))
+      (labels : List Label) (line : ℕ) (p n : Spot) (m : ℕ) → Includes own labels → is_pointer_known s p ≡ true →
+      is_member_known s is_word_type n m ≡ true →
+      L.Does (setting_around 0 k labels line most) 0 (Y.NumberIn (member_of p n m))
   pub assigned :
-      (labels : List Label) (p n : Spot) (source : Y.Number) (line index need : ℕ) → Includes own labels →
-      is_pointer_known s p ≡ true → is_based_known s n ≡ true → line < 2 ^ 31 → need ≤ k.registers →
-      1 ≤ k.registers →
+      (labels : List Label) (p n : Spot) (m : ℕ) (source : Y.Number) (line index need : ℕ) → Includes own labels →
+      is_pointer_known s p ≡ true → is_member_known s is_word_type n m ≡ true → line < 2 ^ 31 →
+      need ≤ k.registers → 1 ≤ k.registers →
       Linked k.call.surroundings.links k.call.code index
-      (stmt_code k.environment none_taken (B.assignment p n source line)) →
+      (stmt_code k.environment none_taken (M.assignment p n m source line)) →
       L.Does (setting_around 0 k labels line most) need source →
-      Does k labels (B.assignment p n source line) index left'
+      Does k labels (M.assignment p n m source line) index left'
+  pub followed :
+      (labels : List Label) (x p n : Spot) (m line index : ℕ) → Includes own labels → is_pointer_known s x ≡ true →
+      is_pointer_known s p ≡ true → is_member_known s is_pointer_type n m ≡ true → line < 2 ^ 31 →
+      Linked k.call.surroundings.links k.call.code index
+      (stmt_code k.environment none_taken (following x p n m line)) →
+      Does k labels (following x p n m line) index left'
+  -- the name waits in words of the newest layer
+  pub linked :
+      (labels : List Label) (p n : Spot) (m : ℕ) (y : Spot) (line index : ℕ) (layer : Layer) (others : List Layer) →
+      Includes own labels → is_pointer_known s p ≡ true → is_member_known s is_pointer_type n m ≡ true →
+      is_pointer_known s y ≡ true → line < 2 ^ 31 → k.first.control.layers ≡ layer ∷ others → 4 ≤ layer.words →
+      Linked k.call.surroundings.links k.call.code index
+      (stmt_code k.environment none_taken (linking p n m y line)) →
+      Does k labels (linking p n m y line) index left'
+  pub nulled :
+      (labels : List Label) (p n : Spot) (m line index : ℕ) (layer : Layer) (others : List Layer) →
+      Includes own labels → is_pointer_known s p ≡ true → is_member_known s is_pointer_type n m ≡ true →
+      line < 2 ^ 31 → k.first.control.layers ≡ layer ∷ others → 4 ≤ layer.words →
+      Linked k.call.surroundings.links k.call.code index
+      (stmt_code k.environment none_taken (nulling p n m line)) →
+      Does k labels (nulling p n m line) index left'
   pub allocated :
       (labels : List Label) (n p x : Spot) (line index : ℕ) → Includes own labels → is_pointer_known s p ≡ true →
       is_based_known s n ≡ true → is_area_known s x ≡ true → line < 2 ^ 31 →
@@ -387,7 +424,9 @@ pub record KnowsLoops (s : Scope) (k : Block) (own : List Label) (most left' : �
   pub jumps : (waits : ℕ → Option ℕ) → KnowsJumps s (telling waits layer others k) own left'
   pub texts : (waits : ℕ → Option ℕ) → s.texts ≡ true → KnowsAroundTexts s (telling waits layer others k) own most
   pub signals : (waits : ℕ → Option ℕ) → KnowsSignals s (telling waits layer others k) own left'
-  pub puts : (waits : ℕ → Option ℕ) → s.puts ≡ true → KnowsPuts s (telling waits layer others k) most
+  -- there nothing that is BASED is written
+  pub puts :
+      (waits : ℕ → Option ℕ) → s.puts ≡ true → KnowsPuts (without_located s) (telling waits layer others k) most
 
 -- a block whose own list has these labels
 pub record IsReady (s : Scope) (valued : Bool) (k : Block) (labels : List Label) (most left' : ℕ) : Type 0 where

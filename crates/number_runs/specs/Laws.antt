@@ -19,7 +19,7 @@ use Rattle.argument_runs.specs.Parameters.{IsParameter}
 use Rattle.test_runs.specs.Tests.{Tests}
 use Rattle.number_runs.specs.Knowledge.{AreAround, AreStanding, HasFrame, HasLists, IsReady, IsUnraised, KnowsLists}
 use Rattle.number_runs.specs.Knowledge.{KnowsNumbers, KnowsPuts, KnowsRaises, Standing, KnowsAroundTexts}
-use Rattle.number_runs.specs.Knowledge.{KnowsConstants, MayBeSet, call_number}
+use Rattle.number_runs.specs.Knowledge.{KnowsConstants, KnowsPlaced, MayBeSet, call_number}
 use Rattle.text_runs.specs.Laws.{TextDoes}
 use Rattle.number_runs.specs.Numbers.{Scope, bounds_known, is_array_known, is_known, is_number, is_received, is_test}
 use Rattle.number_runs.specs.Numbers.{is_narrow_known, number_needs, number_sets, test_needs, test_sets, type_known}
@@ -69,7 +69,8 @@ pub record BodiesDo : Type 0 where
       (s.elements ≡ true → (x : Spot) → is_array_known s x ≡ true → IsArray k x (bounds_known s x)) →
       (s.narrows ≡ true → (x : Spot) → is_narrow_known s x ≡ true → IsScalar k x (type_known s x)) →
       ((x : Spot) → is_received s x ≡ true → IsParameter k x) → (s.codes ≡ true → HasCode k) →
-      (s.texts ≡ true → KnowsConstants k) → KnowsLists k → KnowsPuts s k most
+      (s.texts ≡ true → KnowsConstants k) → KnowsLists k → (s.locates ≡ true → KnowsPlaced s k most) →
+      KnowsPuts s k most
   -- and texts may wait, if functions are called above them
   pub texts :
       (s : Scope) (k : Block) (own : List Label) (most : ℕ) → IsUnraised k most → KnowsConstants k →

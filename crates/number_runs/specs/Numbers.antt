@@ -17,7 +17,8 @@ use Rattle.area_runs.specs.Based.{based_of}
 use Rattle.number_runs.specs.Initial.{are_values}
 use Rattle.number_runs.specs.Arrays.{bounds_if, is_array_if}
 use Rattle.number_runs.specs.Narrow.{is_bit, is_narrow_if, is_number_type, is_text_type, type_if}
-use Rattle.number_runs.specs.Based.{is_area_if, is_based_class, is_based_if, is_pointer_if}
+use Rattle.number_runs.specs.Based.{has_member_if, is_area_if, is_based_class, is_based_if, is_pointer_if}
+use Rattle.number_runs.specs.Based.{is_pointer_type, is_word_type}
 
 -- ---- what an expression may name
 
@@ -198,7 +199,7 @@ is_element s v part =
 
 -- ---- what pointers lead to
 
--- a pointer of one of these blocks, an area of one, and a number that is BASED
+-- a pointer of one of these blocks, an area of one, what is BASED, and a member of that
 abbrev pub is_pointer_known : Scope → Spot → Bool
 is_pointer_known s x =
     list_any (is_place x) s.pointers && is_pointer_if (declared_variable s.program (variable_of x))
@@ -208,6 +209,9 @@ is_area_known s x = list_any (is_place x) s.pointers && is_area_if (declared_var
 
 abbrev pub is_based_known : Scope → Spot → Bool
 is_based_known s x = is_based_if (declared_variable s.program (based_of x))
+
+abbrev pub is_member_known : Scope → (Y.LeafType → Bool) → Spot → ℕ → Bool
+is_member_known s test x n = has_member_if test n (declared_variable s.program (based_of x))
 
 -- all of a pointer
 abbrev pub is_pointer_in : Scope → Y.Reference → Bool
@@ -219,12 +223,24 @@ is_pointer_in s _ = false
 abbrev pub is_based_variable : Scope → Y.Variable → Bool
 is_based_variable s v = is_based_class v.class && is_based_known s (spot_of v)
 
--- all that one leads to
-abbrev pub is_located : Scope → Y.Variable → Y.Pointer → Y.Part → Bool
-is_located s v (Y.PointerIn r) part =
+-- a member of what one leads to
+abbrev pub is_located : Scope → (Y.LeafType → Bool) → Y.Variable → Y.Pointer → Y.Part → Bool
+is_located s test v (Y.PointerIn r) part =
     s.locates
-    && (is_based_variable s v && ((part.first == 0) && ((part.count == 1) && is_pointer_in s r)))
-is_located s v _ part = false
+    && (is_based_class v.class
+    && ((part.count == 1) && (is_member_known s test (spot_of v) part.first && is_pointer_in s r)))
+is_located s test v _ part = false
+
+-- that is a pointer
+abbrev pub is_followed : Scope → Y.Reference → Bool
+is_followed s (Y.Referring v (Y.LocatedBy p) part Y.NoNumber) = is_located s is_pointer_type v p part
+is_followed s _ = false
+
+-- two pointers, or one and NULL
+abbrev pub are_compared : Scope → (left right : Y.Pointer) → Bool
+are_compared s (Y.PointerIn x) Y.NullPointer = s.locates && is_pointer_in s x
+are_compared s (Y.PointerIn x) (Y.PointerIn y) = s.locates && (is_pointer_in s x && is_pointer_in s y)
+are_compared s left right = false
 
 -- ---- numbers
 
@@ -282,7 +298,7 @@ abbrev mutual
 
   -- a variable, a parameter, an element of an array, or what a pointer leads to
   pub is_reference : Scope → Y.Reference → Bool
-  is_reference s (Y.Referring v (Y.LocatedBy p) part Y.NoNumber) = is_located s v p part
+  is_reference s (Y.Referring v (Y.LocatedBy p) part Y.NoNumber) = is_located s is_word_type v p part
   is_reference s (Y.Referring v Y.NotLocated part (Y.NumberThen subscript Y.NoNumber)) =
       is_element s v part && (is_number s subscript && is_wider s subscript)
   is_reference s r = is_variable s r || is_given s r
@@ -321,6 +337,7 @@ abbrev mutual
   is_test s (Y.BitOfText x) = s.texts && is_text (without_given s) x
   is_test s (Y.TextsCompared comparison left right) =
       s.texts && (is_text (without_given s) left && is_text (without_given s) right)
+  is_test s (Y.PointersCompared equal left right) = are_compared s left right
   is_test s _ = false
 
 -- how many registers its temporaries need
@@ -391,6 +408,13 @@ abbrev pub locator_sets : Y.Locator → ℕ
 locator_sets Y.NotLocated = 0
 locator_sets (Y.LocatedBy p) = 5
 
+-- the words of a name, and of the two that are compared
+abbrev pub name_sets : ℕ
+name_sets = 4
+
+abbrev pub compared_sets : ℕ
+compared_sets = 8
+
 abbrev mutual
   pub number_sets : Y.Number → ℕ
   number_sets (Y.NumberIn r) = reference_sets r
@@ -428,4 +452,5 @@ abbrev mutual
   test_sets (Y.Combined operator left right) = max (test_sets left) (test_sets right)
   test_sets (Y.NumbersCompared comparison left right) = max (number_sets left) (number_sets right)
   test_sets (Y.BitsCompared comparison left right) = max (test_sets left) (test_sets right)
+  test_sets (Y.PointersCompared equal left right) = compared_sets
   test_sets _ = 0

@@ -5,7 +5,7 @@ use Rattle.pli_language.specs.Formats.{is_times, is_width}
 use Rattle.pli_language.specs.Tree as T
 use Rattle.pli_typing.specs.TypedTree as Y
 use Rattle.pli_coding.specs.Streams.{has_fixed, has_text}
-use Rattle.number_runs.specs.Numbers.{Scope, is_number, is_precision, is_text, number_needs, text_needs}
+use Rattle.number_runs.specs.Numbers.{Scope, is_number, is_precision, is_text, number_needs, number_sets, text_needs}
 
 -- ---- format lists
 
@@ -40,13 +40,16 @@ is_list formats = are_formats formats && (has_fixed formats || has_text formats)
 
 -- ---- data lists
 
--- what is written calls no function, and reaches nothing that is BASED: it is evaluated while a place in a format list
--- is in use
+-- what is written calls no function: it is evaluated while a place in a format list is in use
+abbrev pub without_functions : Scope → Scope
+without_functions s = record s { is_function = λ level n. false; gives = false }
+
+-- and a text reaches nothing that is BASED
 abbrev pub without_calls : Scope → Scope
 without_calls s = record s { is_function = λ level n. false; gives = false; locates = false }
 
 abbrev pub is_put_item : Scope → Y.PutItem → Bool
-is_put_item s (Y.PutValue (Y.NumberValue precision x)) = is_number (without_calls s) x
+is_put_item s (Y.PutValue (Y.NumberValue precision x)) = is_number (without_functions s) x
 is_put_item s (Y.PutValue (Y.TextValue x)) = s.texts && is_text (without_calls s) x
 is_put_item s _ = false
 
@@ -98,3 +101,16 @@ put_items_need (i ∷ is) = max (put_item_needs i) (put_items_need is)
 abbrev pub put_needs : List Y.PutPair → ℕ
 put_needs [] = 0
 put_needs (p ∷ ps) = max (put_items_need p.items) (put_needs ps)
+
+-- and how many words of the frame
+abbrev pub put_item_sets : Y.PutItem → ℕ
+put_item_sets (Y.PutValue (Y.NumberValue precision x)) = number_sets x
+put_item_sets _ = 0
+
+abbrev pub put_items_set : List Y.PutItem → ℕ
+put_items_set [] = 0
+put_items_set (i ∷ is) = max (put_item_sets i) (put_items_set is)
+
+abbrev pub put_sets : List Y.PutPair → ℕ
+put_sets [] = 0
+put_sets (p ∷ ps) = max (put_items_set p.items) (put_sets ps)

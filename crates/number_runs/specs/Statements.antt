@@ -10,9 +10,9 @@ use Rattle.number_runs.specs.Numbers.{Scope, call_needs, call_sets, are_argument
 use Rattle.number_runs.specs.Numbers.{is_reference, is_narrow_with, is_test, number_needs, number_sets}
 use Rattle.number_runs.specs.Numbers.{reference_needs, reference_sets, test_needs, test_sets, is_text, text_needs}
 use Rattle.number_runs.specs.Numbers.{without_given, is_area_known, is_automatic, is_based_variable, is_pointer_in}
-use Rattle.number_runs.specs.Numbers.{spot_of, without_located}
+use Rattle.number_runs.specs.Numbers.{spot_of, without_located, is_followed, name_sets}
 use Rattle.number_runs.specs.Narrow.{has_precision, is_bit, is_text_type}
-use Rattle.number_runs.specs.Puts.{is_put, put_needs}
+use Rattle.number_runs.specs.Puts.{is_put, put_needs, put_sets}
 
 -- a line fits a register
 abbrev pub is_line : ℕ → Bool
@@ -23,13 +23,24 @@ abbrev pub is_stored : Scope → Y.Stored → Bool
 is_stored s (Y.StoredNumber precision x) = (precision == 31) && is_number s x
 is_stored s _ = false
 
--- a number on its way into one of fewer bits, which is tested, a bit into a bit, or a text, which is cut
+-- NULL, all of a pointer or a member on its way into a pointer, or NULL or a pointer into such a member: there the name
+-- waits
+abbrev pub is_pointed : Scope → Y.Reference → Y.Pointer → Bool
+is_pointed s target Y.NullPointer = s.locates && (is_pointer_in s target || (s.counts && is_followed s target))
+is_pointed s target (Y.PointerIn r) =
+    s.locates
+    && ((is_pointer_in s target && (is_pointer_in s r || is_followed s r))
+    || (s.counts && (is_followed s target && is_pointer_in s r)))
+is_pointed s target _ = false
+
+-- a number on its way into one of fewer bits, which is tested, a bit into a bit, a text, which is cut, or a name
 abbrev pub is_narrowed : Scope → Y.Reference → Y.Stored → Bool
 is_narrowed s target (Y.StoredNumber precision x) =
     s.overflows && (is_narrow_with s (has_precision precision) target && is_number s x)
 is_narrowed s target (Y.StoredBit x) = is_narrow_with s is_bit target && is_test s x
 is_narrowed s target (Y.StoredText x) =
     s.texts && (is_narrow_with s is_text_type target && is_text (without_given s) x)
+is_narrowed s target (Y.StoredPointer x) = is_pointed s target x
 is_narrowed s target _ = false
 
 abbrev pub stored_needs : Y.Stored → ℕ
@@ -38,15 +49,25 @@ stored_needs (Y.StoredBit x) = test_needs x
 stored_needs (Y.StoredText x) = text_needs x
 stored_needs _ = 0
 
--- it waits in a register while a subscript is computed, and a text on its stack
+-- it waits in a register while a subscript is computed, a text on its stack, and a name in words
 abbrev pub behind_stored : Y.Stored → (need : ℕ) → ℕ
 behind_stored (Y.StoredText x) need = need
+behind_stored (Y.StoredPointer x) need = need
 behind_stored _ need = suc need
+
+abbrev pub pointer_sets : Y.Pointer → ℕ
+pointer_sets (Y.PointerIn r) = max name_sets (reference_sets r)
+pointer_sets _ = name_sets
 
 abbrev pub stored_sets : Y.Stored → ℕ
 stored_sets (Y.StoredNumber precision x) = number_sets x
 stored_sets (Y.StoredBit x) = test_sets x
+stored_sets (Y.StoredPointer x) = pointer_sets x
 stored_sets _ = 0
+
+abbrev pub behind_sets : Y.Stored → (sets : ℕ) → ℕ
+behind_sets (Y.StoredPointer x) sets = name_sets + sets
+behind_sets _ sets = sets
 
 -- ---- ALLOCATE, FREE and areas, each of one variable
 
@@ -153,7 +174,8 @@ abbrev mutual
 -- turn, by calls for lists of arguments, and by what reaches what is BASED
 abbrev mutual
   pub statement_sets : Y.Stmt → ℕ
-  statement_sets (Y.Assign target source line) = max (stored_sets source) (reference_sets target)
+  statement_sets (Y.Assign target source line) =
+      max (stored_sets source) (behind_sets source (reference_sets target))
   statement_sets (Y.If condition unit line) = max (test_sets condition) (statement_sets unit)
   statement_sets (Y.IfElse condition unit otherwise line) =
       max (test_sets condition) (max (statement_sets unit) (statement_sets otherwise))
@@ -167,6 +189,7 @@ abbrev mutual
   statement_sets (Y.ReturnValue type source line) = stored_sets source
   statement_sets (Y.Allocate all line) = allocation_sets
   statement_sets (Y.Free all line) = freeing_sets
+  statement_sets (Y.Put skip pairs line) = put_sets pairs
   statement_sets _ = 0
 
   pub statements_set : Y.Stmts → ℕ

@@ -93,6 +93,8 @@ pub record IsSettled (s : Scope) (k : Block) (most : ℕ) : Type 0 where
   pub code : HasCode k
   -- without texts
   pub wordless : s.texts ≡ false
+  -- and what is BASED
+  pub unlocated : s.locates ≡ false
   pub lists : KnowsLists k
 
 -- there numbers may be written
@@ -131,6 +133,7 @@ settled_writes s k most h =
             parameters = λ x is. parameter_placed k place x (h.parameters x is);
             texts = λ may. absurd (cc (sym h.wordless ∙ may));
             given = λ may. absurd (cc may);
+            pointers = λ may. absurd (cc may);
             located = λ may. absurd (cc may);
             codes = λ may. h.code;
             functions = λ level n is. absurd (cc is);
@@ -144,4 +147,5 @@ settled_writes s k most h =
             most = omega (arith, few);
           });
       lists = h.lists;
+      located = λ may. absurd (cc (sym h.unlocated ∙ may));
     }

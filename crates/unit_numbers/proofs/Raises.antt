@@ -346,6 +346,7 @@ held_puts once {program} m h ih more blocks c o os a writes errors held =
       parameters = λ x is. absurd (cc is);
       code = a.code;
       wordless = refl;
+      unlocated = refl;
       lists = lists_known program (block_of m h o os) m.memory a.told;
     })
 
@@ -381,6 +382,7 @@ free_puts once {program} m h ih more blocks c o os a each above =
             parameters = λ x is. absurd (cc is);
             texts = λ may'. absurd (cc may');
             given = λ may'. absurd (cc may');
+            pointers = λ may'. absurd (cc may');
             located = λ may'. absurd (cc may');
             codes = λ may'. a'.code;
             functions = λ level n is. absurd (cc is);
@@ -393,6 +395,7 @@ free_puts once {program} m h ih more blocks c o os a each above =
           error_at (List ℕ) once m h ih more blocks c o' os a' each [] (rises_above m h (block_of m h o' os) [] above)
           words [] (λ label e. e) line routines);
       lists = lists_known program k m.memory a.told;
+      located = λ may'. absurd (cc may');
     }
 
 puts_of :
