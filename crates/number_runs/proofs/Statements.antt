@@ -562,7 +562,7 @@ mutual
       let c = and_parts (is_condition h.scope condition) inner b.1 in
       let x : Once = record { variable = variable; start = start; body = body; line = line } in
       let needs = max (stored_needs start) (behind_stored start (reference_needs variable)) in
-      let words = max (stored_sets start) (reference_sets variable) in
+      let words = max (stored_sets start) (behind_sets start (reference_sets variable)) in
       let all = max words (max (condition_sets condition) (statements_set body)) in
       once_does h labels x condition index placed a.0 c.0 (omega (arith, fits))
       (λ n less. fewer h n all (omega (arith, less)) sets)

@@ -649,7 +649,7 @@ mutual
       let b = and_parts (one || other) (is_condition s condition && inner) a.1 in
       let c = and_parts (is_condition s condition) inner b.1 in
       sets_either (max (stored_needs start) (behind_stored start (reference_needs variable)))
-      (max (condition_needs condition) (statements_need body)) (max (stored_sets start) (reference_sets variable))
+      (max (condition_needs condition) (statements_need body)) (max (stored_sets start) (behind_sets start (reference_sets variable)))
       (max (condition_sets condition) (statements_set body)) (set_aside words)
       (assigned_takes (set_aside words) variable start)
       (most_taken (bit_if_takes (set_aside words) condition) (stmts_take (set_aside words) body))

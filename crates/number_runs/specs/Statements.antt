@@ -182,7 +182,7 @@ abbrev mutual
   statement_sets (Y.Do body line) = statements_set body
   statement_sets (Y.DoWhile condition body line) = max (test_sets condition) (statements_set body)
   statement_sets (Y.DoOnce variable start condition body line) =
-      max (max (stored_sets start) (reference_sets variable)) (max (condition_sets condition) (statements_set body))
+      max (max (stored_sets start) (behind_sets start (reference_sets variable))) (max (condition_sets condition) (statements_set body))
   statement_sets (Y.DoCount counter start limit step condition body line) =
       max (3 + count_sets start limit) (2 + max (condition_sets condition) (statements_set body))
   statement_sets (Y.CallProcedure call line) = call_sets call
