@@ -12,6 +12,7 @@ ghost use Rattle.number_headlines.specs.GivenRows.{FactKept};
 ghost use Rattle.number_headlines.specs.Headlines.{NumberHeadlinesKept};
 ghost use Rattle.number_headlines.specs.InitialRows.{InitialKept};
 ghost use Rattle.number_headlines.specs.LentRows.{LentKept};
+ghost use Rattle.number_headlines.specs.HolderRows.{HolderKept};
 ghost use Rattle.number_headlines.specs.NestRows.{NestKept};
 ghost use Rattle.number_headlines.specs.PowerRows.{PowerKept};
 ghost use Rattle.number_headlines.specs.PutRows.{SquaresKept};
@@ -149,6 +150,14 @@ pub fn euclid_kept()
 /// A worked row with both: variables that INITIAL gave values are passed by reference.
 pub fn lent_kept()
     ensures { LentKept }
+{
+    number_headlines_kept();
+}
+
+/// A worked row with parameters of a block around: a procedure adds one that its holder has to another, and calls its
+/// holder with both.
+pub fn holder_kept()
+    ensures { HolderKept }
 {
     number_headlines_kept();
 }
