@@ -1,8 +1,8 @@
 -- A block of the class that is called from another: its variables are made, and what is known there is known of it.
-use Rattle.std.proofs.Common.{◌≡◌, ◌⊎◌, inl, inr, ℕ, suc, ◌+◌, ◌^◌, ◌<◌, ◌≤◌, List, [], ◌∷◌, length, Option, Bool}
+use Rattle.std.proofs.Common.{◌≡◌, ◌⊎◌, inl, inr, ℕ, suc, ◌+◌, ◌^◌, ◌<◌, ◌≤◌, List, [], length, Bool}
 use Rattle.std.proofs.Common.{true}
 use Rattle.std.proofs.Common.{false, refl, sym, ap, ◌∙◌, subst, arith}
-use Rattle.std.specs.Prelude.{◌&&◌, ◌==◌, nat_le, nat_lt, if◌then◌else◌}
+use Rattle.std.specs.Prelude.{nat_le, nat_lt}
 use Rattle.std.specs.List.{list_any}
 use Rattle.std.proofs.lemmas.Bool.{and_from, and_parts, leb-true, ltb-true}
 use Rattle.std.proofs.lemmas.Bool.Decides.{nat_tests}
@@ -12,7 +12,7 @@ use Rattle.pli_meaning.specs.DeclaredShapes.{declared_variable, variables_of_blo
 use Rattle.pli_meaning.specs.StorageState.{Activation, force, most_activations}
 use Rattle.pli_meaning.specs.World.{World}
 use Rattle.pli_coding.specs.Environments.{block_around}
-use Rattle.pli_coding.specs.Frames.{fixed_size, parameters_in, parameters_of_block}
+use Rattle.pli_coding.specs.Frames.{fixed_size}
 use Rattle.pli_coding.specs.Images.{linked_code}
 use Rattle.code_marks.specs.CodeMarks.{MarkedOnce}
 use Rattle.activation_relation.specs.FrameLaws.{with_waits}
@@ -20,7 +20,7 @@ use Rattle.activation_relation.specs.Frames.{lower_end, upper_top}
 use Rattle.activation_relation.specs.Layers.{Point}
 use Rattle.activation_relation.specs.ServiceLaws.{IsSystem}
 use Rattle.program_places.specs.Laws.{IsEnd}
-use Rattle.program_places.specs.Programs.{IsProcedure, code_for}
+use Rattle.program_places.specs.Programs.{code_for}
 use Rattle.program_places.specs.Programs.{environment_for, links_for}
 use Rattle.program_places.proofs.Blocks.{own_block}
 use Rattle.program_places.proofs.Callees.{end_is}
@@ -35,16 +35,17 @@ use Rattle.expression_runs.specs.Variables.{IsNumber, Spot, number_declared, var
 use Rattle.element_runs.specs.Arrays.{IsArray}
 use Rattle.scalar_runs.specs.Scalars.{IsScalar}
 use Rattle.variable_runs.specs.Lists.{layer_after}
-use Rattle.argument_runs.specs.Parameters.{parameter_of}
 use Rattle.block_headlines.proofs.Constants.{called_of_program}
 use Rattle.number_runs.specs.Arrays.{bounds_if, is_array_if}
 use Rattle.number_runs.specs.Narrow.{is_narrow_if, type_if}
-use Rattle.number_runs.specs.Numbers.{has_none, is_narrow_known}
-use Rattle.number_runs.specs.Numbers.{is_array_known, is_known, is_parameter_if, is_place, is_plain_if, is_received}
+use Rattle.number_runs.specs.Numbers.{is_narrow_known}
+use Rattle.number_runs.specs.Numbers.{is_array_known, is_known, is_place, is_plain_if, is_received}
 use Rattle.number_runs.specs.Variables.{words_in}
 use Rattle.number_runs.proofs.Words.{found, own_place}
 use Rattle.number_runs.proofs.Words.{room_behind}
-use Rattle.number_headlines.specs.Programs.{places_to, receivers_of, scope_of}
+use Rattle.number_headlines.specs.Programs.{places_to, scope_of}
+use Rattle.number_headlines.proofs.Around.{none_received, outer_around_by, received_parts, received_there}
+use Rattle.parameter_runs.specs.Around.{IsParameterAround}
 use Rattle.number_headlines.proofs.FullWords.{words_at, words_count, words_lower}
 use Rattle.number_headlines.proofs.Inner.{Inner}
 use Rattle.number_headlines.proofs.Loops.{after_waits, after_words}
@@ -56,7 +57,7 @@ use Rattle.number_headlines.proofs.Running.{table_later}
 use Rattle.number_headlines.proofs.Telling.{called_block, outer_telling_by, own_telling_by, serial_given}
 use Rattle.number_headlines.proofs.Telling.{serials_small}
 use Rattle.list_calls.specs.Passed.{IsTelling}
-use Rattle.number_headlines.proofs.CalledBlocks.{Moment, end_by, callee_in, entered_at, inner_set, begun_room}
+use Rattle.number_headlines.proofs.CalledBlocks.{DontPass, Moment, end_by, callee_in, entered_at, inner_set, begun_room}
 use Rattle.number_headlines.proofs.CalledBlocks.{has_words, has_all, are_made, made_idle, is_inside, nested_by}
 use Rattle.number_headlines.proofs.CalledBlocks.{outer_by, own_by, outer_array_by, own_array_by, outer_narrow_by}
 use Rattle.number_headlines.proofs.CalledBlocks.{DontPass, own_narrow_by}
@@ -311,20 +312,31 @@ ends_by true once {program} m i =
     let inside = i.inside in
     function_end_is once program i.head i.body 31 m.loadable i.is (omega (arith, inside))
 
--- without a parameter it names none
-pub none_received :
-    (program : Y.Program) (ns : List ℕ) (head : Y.BlockHead) (body : Y.Stmts)
-    (result : Option Y.LeafType) (x : Spot) → IsProcedure program head body result →
-    is_received (scope_of program ns head body) x ≡ true → ⊥
-none_received program ns head body result x is h =
-    let rest = list_any (λ n. n == x.index) (parameters_of_block program x.block)
-    && is_parameter_if (declared_variable program (parameter_of x)) in
-    let none = ap parameters_in is in
-    let some : (list_any (is_place x) (receivers_of program head) && rest) ≡ true = h in
-    cc (subst (λ qs.
-    (list_any (is_place x)
-    (if has_none qs then [] else record { number = head.number; level = head.level } ∷ []) && rest) ≡ true) none
-    some)
+-- its parameters are those of the calling block: it has none itself
+each_around :
+    {program : Y.Program} (m : Main program) {input : List ℕ} {acts : ℕ} {valued : Bool} {more b : ℕ}
+    {a : Running} {p : Point} {numbers : ℕ → ℕ}
+    (o : Moment m input acts valued (suc more) a (suc b) p numbers) {v : Bool} {level number : ℕ}
+    (i : Inner m a.head [] v level number) (call : ℕ) →
+    DontPass (block_of_run program input acts valued (suc more) a) i →
+    IsBegun (block_of_run program input acts v more
+    (entered_at i (block_of_run program input acts valued (suc more) a) call p numbers)) → (x : Spot) →
+    is_received (scope_of program m.called i.head i.body) x ≡ true →
+    IsParameterAround (block_of_run program input acts v more
+    (entered_at i (block_of_run program input acts valued (suc more) a) call p numbers)) x
+each_around {program} m {input} {acts} {valued} {more} {b} {a} {p} {numbers} o {v} {level} i call pass b' x h =
+    by (stands_at i x (received_parts program m.called i.head i.body x h).0).at
+  where
+    by :
+        ((x.level ≤ level)
+        × (list_any (is_place x) (places_to (environment_for program a.head) a.head.level) ≡ true))
+        ⊎ ((x.block ≡ i.head.number) × (x.level ≡ i.head.level)) →
+        IsParameterAround (block_of_run program input acts v more
+        (entered_at i (block_of_run program input acts valued (suc more) a) call p numbers)) x
+    by (inl low) =
+        outer_around_by v m o i call pass b' x low.0
+        (o.running.parameters x (received_there program m.called i.head a.head i.body a.body x low.1 h))
+    by (inr own) = absurd (none_received program m.called i.head i.body (result_of v) x i.is own.0 h)
 
 pub entered :
     MarkedOnce → {program : Y.Program} (m : Main program) {input : List ℕ} {acts : ℕ} {valued : Bool} {more b : ℕ}
@@ -392,7 +404,7 @@ entered once {program} m {input} {acts} {valued} {more} {b} {a} {p} {numbers} o 
         variables = λ x h. each_number m o i call pass b' x h;
         arrays = λ x h. each_array m o i call pass b' x h;
         narrows = λ x h. each_narrow m o i call pass b' x h;
-        parameters = λ x h. absurd (none_received program m.called i.head i.body (result_of v) x i.is h);
+        parameters = λ x h. each_around m o i call pass b' x h;
         named = λ x h. each_named m o i call pass b' x h small;
         serials = small;
         unraised = λ condition. unraised_there m o i call condition;

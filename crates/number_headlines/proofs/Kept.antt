@@ -53,7 +53,7 @@ use Rattle.number_runs.proofs.AreaWords.{held_behind, held_few}
 use Rattle.number_headlines.specs.Headlines.{IsNumberProgram}
 use Rattle.number_headlines.specs.Programs.{are_all_known, has_main, most_words, places_to, pointers_of, scope_of}
 use Rattle.number_headlines.proofs.Bodies.{each_body}
-use Rattle.number_headlines.proofs.Entered.{none_received}
+use Rattle.number_headlines.proofs.Around.{none_received, received_parts}
 use Rattle.number_headlines.proofs.CalledBlocks.{made_idle}
 use Rattle.number_headlines.proofs.FullWords.{words_at, words_lower}
 use Rattle.number_headlines.proofs.Mains.{Main, block_for, level_of, made_system, main_all, main_begun, main_area}
@@ -273,7 +273,9 @@ main_running once {program} m input acts b =
         variables = λ x h. main_variable m input acts b x h;
         arrays = λ x h. main_element m input acts b x h;
         narrows = λ x h. main_scalar m input acts b x h;
-        parameters = λ x h. absurd (none_received program m.called m.head m.body None x found h);
+        parameters = λ x h.
+            absurd (none_received program m.called m.head m.body None x found
+            (main_owns m x (received_parts program m.called m.head m.body x h).0).0 h);
         named = λ x h. main_names m input acts b x h small;
         serials = small;
         unraised = λ c. made_system image_parts _ xs _ c tt;

@@ -11,6 +11,7 @@ pub mod Based
 pub mod Inner
 pub mod FullWords
 pub mod CalledBlocks
+pub mod Around
 pub mod Entered
 pub mod Full
 pub mod Deciding
@@ -42,3 +43,4 @@ pub mod PowerRows
 pub mod InitialRows
 pub mod EuclidRows
 pub mod LentRows
+pub mod HolderRows

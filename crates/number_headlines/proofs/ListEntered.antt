@@ -1,7 +1,7 @@
 -- A block of the class that is called with a list of arguments: its variables are made, and what is known there.
-use Rattle.std.proofs.Common.{◌≡◌, ◌⊎◌, inl, inr, ℕ, suc, ◌+◌, ◌^◌, ◌<◌, ◌≤◌, List, [], ◌∷◌, length, Option, Some}
+use Rattle.std.proofs.Common.{◌≡◌, ◌⊎◌, inl, inr, ℕ, suc, ◌+◌, ◌^◌, ◌<◌, ◌≤◌, List, [], ◌∷◌, length, Some}
 use Rattle.std.proofs.Common.{Bool, true, false, refl, sym, ap, ◌∙◌, subst, arith}
-use Rattle.std.specs.Prelude.{◌&&◌, ◌||◌, ◌==◌, nat_lt, slice_get, if◌then◌else◌}
+use Rattle.std.specs.Prelude.{◌||◌, ◌==◌, nat_lt, slice_get, if◌then◌else◌}
 use Rattle.std.specs.List.{list_any}
 use Rattle.std.proofs.lemmas.Bool.{and_from, and_parts, eqb-true, ltb-true}
 use Rattle.pli_language.specs.declared.condition.Condition.{Condition}
@@ -18,7 +18,7 @@ use Rattle.activation_relation.specs.FrameLaws.{with_waits}
 use Rattle.activation_relation.specs.Landing.{is_begin}
 use Rattle.activation_relation.specs.Layers.{Layer, Point}
 use Rattle.activation_relation.specs.ServiceLaws.{IsSystem}
-use Rattle.program_places.specs.Programs.{IsReceiving, environment_for}
+use Rattle.program_places.specs.Programs.{environment_for}
 use Rattle.program_places.proofs.Blocks.{own_block}
 use Rattle.program_places.proofs.Found.{known}
 use Rattle.program_runs.specs.Procedures.{IsCoded}
@@ -30,7 +30,7 @@ use Rattle.expression_runs.specs.Variables.{IsNumber, Spot, variable_of, number_
 use Rattle.element_runs.specs.Arrays.{IsArray}
 use Rattle.scalar_runs.specs.Scalars.{IsScalar}
 use Rattle.element_runs.proofs.Outer.{outer_array}
-use Rattle.argument_runs.specs.Parameters.{IsParameter, parameter_declared, parameter_of}
+use Rattle.argument_runs.specs.Parameters.{parameter_declared, parameter_of}
 use Rattle.list_calls.specs.Arguments.{ComeTo}
 use Rattle.list_calls.specs.ListCalls.{Listed}
 use Rattle.list_calls.specs.ListKnown.{AreStored, Begins}
@@ -41,11 +41,14 @@ use Rattle.list_calls.proofs.ListKnown.{list_nested, list_number, list_parameter
 use Rattle.number_runs.specs.Arrays.{bounds_if, is_array_if, is_array}
 use Rattle.number_runs.specs.Based.{is_pointer}
 use Rattle.number_runs.specs.Narrow.{is_narrow_if, type_if, is_narrow}
-use Rattle.number_runs.specs.Numbers.{has_none, is_array_known, is_known, is_parameter_if, is_place, is_narrow_known}
+use Rattle.number_runs.specs.Numbers.{is_array_known, is_known, is_place, is_narrow_known}
 use Rattle.number_runs.specs.Numbers.{is_plain_if, is_received, is_plain}
 use Rattle.number_runs.specs.Variables.{is_declared}
 use Rattle.number_runs.proofs.Narrow.{outer_narrow}
-use Rattle.number_headlines.specs.Programs.{places_to, receivers_of, scope_of, beside_received, received_in}
+use Rattle.number_headlines.specs.Programs.{places_to, scope_of, beside_received, received_in}
+use Rattle.number_headlines.proofs.Around.{received_parts, received_there}
+use Rattle.parameter_runs.specs.Around.{IsParameterAround}
+use Rattle.parameter_runs.proofs.Inner.{list_around, own_around}
 use Rattle.number_headlines.proofs.Entered.{stands_at}
 use Rattle.number_headlines.proofs.CalledBlocks.{inner_set}
 use Rattle.number_headlines.proofs.Inner.{Inner}
@@ -436,39 +439,6 @@ given_narrows {program} m {input} {acts} {valued} {more} {b} {a} {ns} {v} {level
 
 -- ---- its parameters
 
-only_here : (q : Bool) → (q || false) ≡ true → q ≡ true
-only_here true h = refl
-only_here false h = absurd (cc h)
-
-at_here :
-    (x : Spot) (head : Y.BlockHead) (none : Bool) →
-    list_any (is_place x) (if none then [] else record { number = head.number; level = head.level } ∷ []) ≡ true →
-    (x.block ≡ head.number) × (x.level ≡ head.level)
-at_here x head true h = absurd (cc h)
-at_here x head false h =
-    let here = is_place x (record { number = head.number; level = head.level }) in
-    let a = and_parts (x.block == head.number) (x.level == head.level) (only_here here h) in
-    (eqb-true x.block head.number a.0, eqb-true x.level head.level a.1)
-
-own_received :
-    (program : Y.Program) (called : List ℕ) (head : Y.BlockHead) (body : Y.Stmts) (ns : List ℕ)
-    (result : Option Y.LeafType) (x : Spot) → IsReceiving program head body ns result →
-    is_received (scope_of program called head body) x ≡ true →
-    (x.block ≡ head.number) × (x.level ≡ head.level) × (list_any (λ n. n == x.index) ns ≡ true)
-    × (is_parameter_if (declared_variable program (parameter_of x)) ≡ true)
-own_received program called head body ns result x is h =
-    let index = list_any (λ n. n == x.index) (parameters_of_block program x.block) in
-    let one = is_parameter_if (declared_variable program (parameter_of x)) in
-    let a = and_parts (list_any (is_place x) (receivers_of program head)) (index && one) h in
-    let b = and_parts index one a.1 in
-    let c = at_here x head (has_none (parameters_of_block program head.number)) a.0 in (
-      c.0,
-      c.1,
-      subst (λ is'. list_any (λ n. n == x.index) is' ≡ true)
-          (ap (λ n. parameters_of_block program n) c.0 ∙ ap parameters_in is) b.0,
-      b.1,
-    )
-
 -- the place of one among them
 place_found :
     (e : Environment) (index : ℕ) (ns : List ℕ) → list_any (λ n. n == index) ns ≡ true →
@@ -499,27 +469,42 @@ given_parameters :
     {program : Y.Program} (m : Main program) {input : List ℕ} {acts : ℕ} {valued : Bool} {more b : ℕ} {a : Running}
     {ns : List ℕ} {v : Bool} {level number : ℕ} (o : Given m input acts valued more b a ns v level number) (x : Spot) →
     is_received (scope_of program m.called o.inner.head o.inner.body) x ≡ true →
-    IsParameter (block_of_run program input acts v more (run_given o)) x
-given_parameters {program} m {more = more} {ns = ns} {v = v} o x h =
-    let i = o.inner in
-    let e = environment_for program i.head in
-    let r = own_received program m.called i.head i.body ns (result_of v) x i.is h in
-    list_parameter (function_by v) (calls_from o) (call_of o) more o.point o.numbers o.passed (place_among x.index ns) x
-    (begins m o) (record { shallow = o.shallow; limit = o.fits }) o.stored
-    (record {
-      parameter = record {
-        index = x.index;
-        declared = parameter_declared;
-        number = table_number e parameter_declared;
-      };
-      there = place_found e x.index ns r.2;
-      declared = parameter_found (declared_variable program (parameter_of x)) r.3;
-      numbered = ap (λ n. place_among x.index (parameters_of_block program n)) r.0
-          ∙ ap (λ is. place_among x.index is) (ap parameters_in i.is);
-      index = refl;
-      level = r.1;
-      own = refl;
-    })
+    IsParameterAround (block_of_run program input acts v more (run_given o)) x
+given_parameters {program} m {input} {acts} {more = more} {a = a} {ns = ns} {v = v} {level = level} {number = number} o x h =
+    by (stands_at i x (received_parts program m.called i.head i.body x h).0).at
+  where
+    i : Inner m a.head ns v level number
+    i = o.inner
+
+    by :
+        ((x.level ≤ level)
+        × (list_any (is_place x) (places_to (environment_for program a.head) a.head.level) ≡ true))
+        ⊎ ((x.block ≡ i.head.number) × (x.level ≡ i.head.level)) →
+        IsParameterAround (block_of_run program input acts v more (run_given o)) x
+    by (inl low) =
+        list_around (function_by v) (calls_from o) (call_of o) more o.point o.numbers o.passed x (begins m o) low.0
+        (o.caller.parameters x (received_there program m.called i.head a.head i.body a.body x low.1 h))
+    by (inr own) =
+        own_around (block_of_run program input acts v more (run_given o)) x
+        (list_parameter (function_by v) (calls_from o) (call_of o) more o.point o.numbers o.passed
+        (place_among x.index ns) x (begins m o) (record { shallow = o.shallow; limit = o.fits }) o.stored
+        (record {
+          parameter = record {
+            index = x.index;
+            declared = parameter_declared;
+            number = table_number (environment_for program i.head) parameter_declared;
+          };
+          there = place_found (environment_for program i.head) x.index ns
+              (subst (λ is. list_any (λ n. n == x.index) is ≡ true)
+              (ap (λ n. parameters_of_block program n) own.0 ∙ ap parameters_in i.is) (received_parts program m.called i.head i.body x h).1);
+          declared = parameter_found (declared_variable program (parameter_of x))
+              (received_parts program m.called i.head i.body x h).2;
+          numbered = ap (λ n. place_among x.index (parameters_of_block program n)) own.0
+              ∙ ap (λ is. place_among x.index is) (ap parameters_in i.is);
+          index = refl;
+          level = own.1;
+          own = refl;
+        }))
 
 -- ---- all of it
 

@@ -37,7 +37,7 @@ use Rattle.text_runs.proofs.Waiting.{number_waits}
 use Rattle.element_runs.specs.Arrays.{IsArray}
 use Rattle.scalar_runs.specs.Scalars.{IsScalar}
 use Rattle.function_runs.specs.Functions.{function_entry}
-use Rattle.argument_runs.specs.Parameters.{IsParameter}
+use Rattle.parameter_runs.specs.Around.{IsParameterAround}
 use Rattle.counter_runs.proofs.Known.{array_told, number_told}
 use Rattle.counter_runs.proofs.Words.{begun_telling}
 use Rattle.block_headlines.specs.Constants.{IsOf}
@@ -51,7 +51,7 @@ use Rattle.number_runs.specs.Numbers.{bounds_known, is_array_known, is_known, is
 use Rattle.number_runs.proofs.Narrow.{narrow_told}
 use Rattle.number_runs.specs.Statements.{are_statements, statements_need, statements_set}
 use Rattle.number_runs.specs.Variables.{AreTabled}
-use Rattle.list_calls.proofs.ParametersPassed.{parameter_told}
+use Rattle.parameter_runs.proofs.Passing.{around_told}
 use Rattle.number_runs.proofs.Waiting.{array_waits, narrow_waits, parameter_waits}
 use Rattle.number_headlines.specs.Programs.{most_waiting, scope_of}
 use Rattle.list_calls.specs.Passed.{IsTelling}
@@ -203,7 +203,7 @@ pub record IsRunning {program : Y.Program} (m : Main program) (input : List ℕ)
         (type_known (scope_of program m.called a.head a.body) x)
     pub parameters :
         (x : Spot) → is_received (scope_of program m.called a.head a.body) x ≡ true →
-        IsParameter (block_of_run program input acts valued more a) x
+        IsParameterAround (block_of_run program input acts valued more a) x
     -- the frames tell the names of all numbers, whose serial numbers have two words
     pub named :
         (x : Spot) → is_known (scope_of program m.called a.head a.body) x ≡ true →
@@ -324,7 +324,7 @@ told_running {program} {m} {input} {acts} {valued} {more} {a} {blocks} h waits =
       narrows = λ x is.
           narrow_told k φ φs waits free.newest x (type_known (scope_of program m.called a.head a.body) x)
           (h.narrows x is);
-      parameters = λ x is. parameter_told k φ φs waits free.newest x (h.parameters x is);
+      parameters = λ x is. around_told k φ φs waits free.newest x (h.parameters x is);
       named = λ x is. telling_told k φ φs waits free.newest x (h.named x is);
       serials = h.serials;
       unraised = h.unraised;

@@ -1,12 +1,11 @@
 -- Programs of FIXED BINARY(31) numbers, as a class that is computed from typed trees.
-use Rattle.std.specs.Prelude.{ℕ, zero, suc, ◌*◌, ◌^◌, ◌&&◌, ◌||◌, ◌++◌, ◌==◌, Bool, true, false, List, [], ◌∷◌, length}
+use Rattle.std.specs.Prelude.{ℕ, zero, suc, ◌*◌, ◌^◌, ◌&&◌, ◌++◌, ◌==◌, Bool, true, false, List, [], ◌∷◌, length}
 use Rattle.std.specs.Prelude.{nat_le, nat_lt, not, slice_get, Option, None, Some, if◌then◌else◌}
 use Rattle.std.specs.List.{flat_map, list_any}
 use Rattle.pli_typing.specs.TypedTree as Y
 use Rattle.pli_meaning.specs.DeclaredShapes.{head_of, procedure_numbered, variables_of_block}
 use Rattle.pli_meaning.specs.Executing.{labels_in}
 use Rattle.pli_coding.specs.Environments.{BlockPlace, Environment, block_around}
-use Rattle.pli_coding.specs.Frames.{parameters_of_block}
 use Rattle.pli_coding.specs.Registers.{held_registers}
 use Rattle.pli_coding.specs.SignatureTable.{with_signatures}
 use Rattle.program_places.specs.Programs.{environment_for}
@@ -98,12 +97,6 @@ are_own (n ∷ ns) ds =
     (nat_le (length (n ∷ ns)) most_received && nat_le (length (n ∷ ns)) (received_in ds))
     && (are_apart (n ∷ ns) && (are_parameters ds (n ∷ ns) && are_plain (beside_received ds)))
 
--- the blocks whose parameters a block may name: itself
-abbrev pub receivers_of : Y.Program → Y.BlockHead → List BlockPlace
-receivers_of program head =
-    if has_none (parameters_of_block program head.number) then []
-    else record { number = head.number; level = head.level } ∷ []
-
 -- ---- procedures
 
 -- so many words of its frame may the loops and the lists of arguments of a block set aside, one in the turns of another
@@ -160,15 +153,14 @@ pointers_of head =
 abbrev pub least_located : ℕ
 least_located = 2
 
--- a block may name its own variables and parameters, and the variables of the blocks around it, and call these, with
--- arguments
+-- a block may name its own variables and parameters, and those of the blocks around it, and call these, with arguments
 abbrev pub scope_of : Y.Program → List ℕ → Y.BlockHead → Y.Stmts → Scope
 scope_of program ns head body =
     record {
       program = program;
       level = head.level;
       blocks = places_to (environment_for program head) head.level;
-      receivers = receivers_of program head;
+      receivers = places_to (environment_for program head) head.level;
       is_function = is_callable program ns head 0 true;
       is_procedure = is_callable program ns head 0 false;
       gives = true;

@@ -14,6 +14,7 @@ ghost use Rattle.number_headlines.specs.Headlines.{NumberHeadlinesKept};
 ghost use Rattle.number_headlines.specs.InitialRows.{InitialKept};
 ghost use Rattle.number_headlines.specs.LentRows.{LentKept};
 ghost use Rattle.number_headlines.specs.LoopRows.{LoopsKept};
+ghost use Rattle.number_headlines.specs.HolderRows.{HolderKept};
 ghost use Rattle.number_headlines.specs.NestRows.{NestKept};
 ghost use Rattle.number_headlines.specs.PowerRows.{PowerKept};
 ghost use Rattle.number_headlines.specs.PutRows.{SquaresKept};
@@ -165,6 +166,14 @@ pub fn lent_kept()
 /// A worked row with other loops: DO that counts while a test is met, and DO with a variable that starts once.
 pub fn loops_kept()
     ensures { LoopsKept }
+{
+    number_headlines_kept();
+}
+
+/// A worked row with parameters of a block around: a procedure adds one that its holder has to another, and calls its
+/// holder with both.
+pub fn holder_kept()
+    ensures { HolderKept }
 {
     number_headlines_kept();
 }

@@ -1,6 +1,6 @@
 -- Numbers, tests and texts of the class: each leaves what it means, by the law of its form.
 use Rattle.std.proofs.Common.{◌≡◌, ◌⊎◌, inl, inr, ℕ, ◌+◌, ◌*◌, ◌^◌, ◌≤◌, List, ◌∷◌, length, Option, Some, true, refl}
-use Rattle.std.proofs.Common.{sym, ap, ◌<◌, ◌∙◌, subst, arith, [], false}
+use Rattle.std.proofs.Common.{sym, ap, ◌<◌, ◌∙◌, subst, arith, []}
 use Rattle.std.specs.Prelude.{◌&&◌, ◌==◌, ◌/◌, ◌%◌, cond, max, suc, nat_le, nat_lt}
 use Rattle.storage_relation.proofs.Holders.{eqb-other}
 use Rattle.storage_relation.proofs.Placing.{none_above}
@@ -41,8 +41,9 @@ use Rattle.text_values.proofs.Comparisons.{above_bit, alone_bit, texts_compare}
 use Rattle.text_values.proofs.Constants.{constant_pushes}
 use Rattle.text_values.proofs.Conversions.{bit_pushes, text_tells}
 use Rattle.text_values.proofs.Variables.{variable_pushes}
-use Rattle.argument_runs.specs.Parameters.{IsParameter, parameter, parameter_of}
-use Rattle.argument_runs.proofs.Parameters.{parameter_does}
+use Rattle.argument_runs.specs.Parameters.{parameter, parameter_of}
+use Rattle.parameter_runs.specs.Around.{IsParameterAround}
+use Rattle.parameter_runs.proofs.Reading.{around_does}
 use Rattle.counter_runs.proofs.Known.{array_told, number_told}
 use Rattle.counter_runs.proofs.Words.{begun_telling}
 use Rattle.list_calls.specs.Arguments.{EachGives, setting_told}
@@ -63,7 +64,7 @@ use Rattle.number_runs.specs.Based.{is_word_type}
 use Rattle.number_runs.specs.Narrow.{is_number_type, is_text_type}
 use Rattle.number_runs.proofs.Arrays.{element_is, subscript_given}
 use Rattle.number_runs.proofs.Narrow.{flag_does, narrow_does, narrow_told, narrow_with_is, text_known, text_type_is}
-use Rattle.list_calls.proofs.ParametersPassed.{parameter_told, parameters_passed}
+use Rattle.parameter_runs.proofs.Passing.{around_passed, around_told}
 use Rattle.number_runs.proofs.Received.{named_told, passable_told, stored_untold}
 use Rattle.number_runs.proofs.Variables.{Names, Passable, parameter_is, variable_is, ways_are, ways_many, ways_of}
 use Rattle.number_runs.proofs.Variables.{ways_stored}
@@ -116,7 +117,7 @@ scalar_does s k r h (inl is) =
     subst (λ q. Does k 0 (Y.NumberIn q)) (sym w.is) (variable_does k w.spot h.begun (h.variables w.spot w.known))
 scalar_does s k r h (inr is) =
     let w = parameter_is s r is in
-    subst (λ q. Does k 0 (Y.NumberIn q)) (sym w.is) (parameter_does k w.spot (h.parameters w.spot w.known))
+    subst (λ q. Does k 0 (Y.NumberIn q)) (sym w.is) (around_does k w.spot (h.parameters w.spot w.known))
 
 -- ---- words for lists
 
@@ -201,7 +202,7 @@ numbers_told s k h g words few waits free =
           array_told k.block g.layer g.others waits g.newest x (bounds_known s x) (h.arrays may x is);
       narrows = λ may x is.
           narrow_told k.block g.layer g.others waits g.newest x (type_known s x) (h.narrows may x is);
-      parameters = λ x is. parameter_told k.block g.layer g.others waits g.newest x (h.parameters x is);
+      parameters = λ x is. around_told k.block g.layer g.others waits g.newest x (h.parameters x is);
       codes = h.codes;
       functions = λ level n is. g.functions words few waits level n is;
       texts = λ may. texts_unlocated (g.texts may words few waits);
@@ -239,9 +240,10 @@ no_lists :
 no_lists {s} h n none may = absurd (cc (sym none.0 ∙ (and_parts s.gives s.counts may).0))
 
 -- a parameter stands for what is stored
-parameter_stored : (k : Block) (x : Spot) (is : IsParameter k x) → IsStored k.first is.serial is.signature
+parameter_stored :
+    (k : Block) (x : Spot) (is : IsParameterAround k x) → IsStored k.first is.entry.serial is.entry.signature
 parameter_stored k x is =
-    let less = none_above (k.first.state.serials + 1) k.first.state.living is.serial is.living
+    let less = none_above (k.first.state.serials + 1) k.first.state.living is.entry.serial is.living
     is.begun.resumes.stands.lives.falling is.lives in
     record {
       old = omega (arith, less);
@@ -275,19 +277,19 @@ variable_passable s k h g x known =
 parameter_passable :
     (s : Scope) (k : Setting) → KnowsNumbers s k → (g : KnowsGiven s k) (x : Spot) → is_received s x ≡ true →
     Passable k g.layer g.others (parameter x)
-unfolding parameter_told
+unfolding around_told
 parameter_passable s k h g x known =
     let p = h.parameters x known in
     record {
       variable = parameter_of x;
       is = refl;
-      serial = p.serial;
-      signature = p.signature;
+      serial = p.entry.serial;
+      signature = p.entry.signature;
       stored = parameter_stored k.block x p;
       passes = λ words waits.
-          parameters_passed (setting_told k words waits g.layer g.others) x (with_waits waits g.layer) g.others
+          around_passed (setting_told k words waits g.layer g.others) x (with_waits waits g.layer) g.others
           (begun_telling k.block g.layer g.others waits g.newest h.begun) refl
-          (parameter_told k.block g.layer g.others waits g.newest x p);
+          (around_told k.block g.layer g.others waits g.newest x p);
     }
 
 -- what may be an argument by reference may be passed

@@ -27,7 +27,7 @@ use Rattle.element_runs.proofs.Outside.{subscripts_end}
 use Rattle.test_runs.specs.Choices.{HasTestWith}
 use Rattle.argument_runs.specs.Parameters.{parameter}
 use Rattle.reference_runs.specs.ParameterAssignments as P
-use Rattle.reference_runs.proofs.ParameterAssignments.{assign_with as assign_parameter}
+use Rattle.parameter_runs.proofs.Assigning.{around_assigned}
 use Rattle.number_runs.specs.Knowledge.{AreAround, HasFrame, HasLists, Includes, IsReady, IsUnraised, KnowsGiven}
 use Rattle.number_runs.specs.Knowledge.{KnowsNumbers, KnowsRaises, MayBeSet, given_statement, KnowsTexts}
 use Rattle.number_runs.specs.Numbers.{Scope, are_arguments, arguments_need, bounds_known, call_sets, gives_lists}
@@ -291,7 +291,7 @@ received_does h labels target source line index includes is one two fits sets =
     let stmt = P.assignment v.spot x.number line in
     subst (λ t. Coded h labels (Y.Assign t source line) index) (sym v.is)
     (subst (λ q. Coded h labels (Y.Assign (parameter v.spot) q line) index) (sym x.is)
-    (λ l. assign_parameter h.words h.block labels v.spot x.number line index h.left' need h.most
+    (λ l. around_assigned h.words h.block labels v.spot x.number line index h.left' need h.most
     (record {
       act = act_of h line is;
       number = h.ready.parameters v.spot v.known;

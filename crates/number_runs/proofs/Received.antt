@@ -7,7 +7,7 @@ use Rattle.activation_relation.specs.Layers.{Layer, Point}
 use Rattle.program_runs.specs.Statements.{Block}
 use Rattle.expression_runs.specs.Variables.{Spot}
 use Rattle.argument_runs.specs.Lists.{with_list}
-use Rattle.argument_runs.specs.Parameters.{IsParameter}
+use Rattle.parameter_runs.specs.Around.{IsParameterAround}
 use Rattle.list_calls.specs.Arguments.{ByName, ByValue, Way}
 use Rattle.list_calls.specs.ListKnown.{AreStored, IsStored}
 use Rattle.list_calls.specs.Passed.{HasTold, IsNamed}
@@ -19,33 +19,22 @@ use Rattle.edit_runs.specs.Edits.{placing}
 use Rattle.edit_runs.proofs.Places.{begun_placed}
 
 pub parameter_placed :
-    (k : Block) (place : EditPlace) (x : Spot) → IsParameter k x → IsParameter (placing place k) x
+    (k : Block) (place : EditPlace) (x : Spot) → IsParameterAround k x → IsParameterAround (placing place k) x
 parameter_placed k place x is =
     record {
       begun = begun_placed k place is.begun;
       declared = is.declared;
-      place = is.place;
+      entry = is.entry;
       numbered_so = is.numbered_so;
       near = is.near;
-      own = is.own;
-      serial = is.serial;
       binding = is.binding;
       living = is.living;
       lives = is.lives;
       shape = is.shape;
-      layer = is.layer;
-      caller = is.caller;
-      others = is.others;
-      signature = is.signature;
-      layers = is.layers;
-      at = is.at;
-      list = is.list;
-      last = is.last;
-      under = is.under;
-      name = is.name;
-      level = is.level;
+      base = is.base;
+      frame = is.frame;
+      listed = is.listed;
       few = is.few;
-      words = is.words;
       small = is.small;
       number = is.number;
       numbered = is.numbered;

@@ -27,9 +27,9 @@ use Rattle.number_runs.specs.Knowledge.{AreStandingWith, HasFrame, IsHome, IsRea
 use Rattle.number_runs.specs.Knowledge.{StandingWith, KnowsAroundTexts, KnowsCalls, KnowsRaises, KnowsPuts}
 use Rattle.number_runs.specs.Numbers.{Scope, bounds_known, type_known, without_located}
 use Rattle.number_runs.proofs.Narrow.{narrow_told}
-use Rattle.list_calls.proofs.ParametersPassed.{parameter_told}
+use Rattle.parameter_runs.proofs.Passing.{around_told}
 use Rattle.number_runs.proofs.Received.{passable_told, stored_untold}
-use Rattle.number_runs.proofs.Waiting.{waiting_without, waiting_unlocated}
+use Rattle.number_runs.proofs.Waiting.{waiting_unlocated}
 
 -- ---- words in which nothing waits
 
@@ -120,7 +120,7 @@ ready_told {s} {k = k} r c none waits behind free =
       variables = λ x is. number_told k l.layer l.others waits l.newest x (r.variables x is);
       arrays = λ may x is. array_told k l.layer l.others waits l.newest x (bounds_known s x) (r.arrays may x is);
       narrows = λ may x is. narrow_told k l.layer l.others waits l.newest x (type_known s x) (r.narrows may x is);
-      parameters = λ x is. parameter_told k l.layer l.others waits l.newest x (r.parameters x is);
+      parameters = λ x is. around_told k l.layer l.others waits l.newest x (r.parameters x is);
       codes = r.codes;
       calls = l.calls waits;
       based = λ may. absurd (cc (sym none ∙ may));

@@ -1,5 +1,5 @@
 -- What is known around expressions is known while texts wait.
-use Rattle.std.proofs.Common.{◌≡◌, ℕ, List, [], ◌++◌, true, false, sym, ap, ◌∙◌, subst}
+use Rattle.std.proofs.Common.{◌≡◌, List, [], ◌++◌, sym, ap, ◌∙◌, subst}
 use Rattle.std.proofs.lemmas.List.{append_assoc}
 use Rattle.pli_typing.specs.Signatures.{Bounds}
 use Rattle.pli_typing.specs.TypedTree as Y
@@ -9,7 +9,7 @@ use Rattle.program_runs.proofs.Waiting.{begun_waits}
 use Rattle.expression_runs.specs.Values.{Setting}
 use Rattle.expression_runs.specs.Variables.{Spot}
 use Rattle.element_runs.specs.Arrays.{IsArray}
-use Rattle.argument_runs.specs.Parameters.{IsParameter}
+use Rattle.parameter_runs.specs.Around.{IsParameterAround}
 use Rattle.variable_runs.specs.Known.{IsKnown}
 use Rattle.scalar_runs.specs.Scalars.{IsScalar}
 use Rattle.text_runs.specs.Waiting.{over}
@@ -47,33 +47,22 @@ pub narrow_waits :
 narrow_waits k entries x t is = record { initial = is.initial; known = known_waits k entries x _ is.known }
 
 pub parameter_waits :
-    (k : Block) (entries : List Entry) (x : Spot) → IsParameter k x → IsParameter (waiting entries k) x
+    (k : Block) (entries : List Entry) (x : Spot) → IsParameterAround k x → IsParameterAround (waiting entries k) x
 parameter_waits k entries x is =
     record {
       begun = begun_waits k entries is.begun;
       declared = is.declared;
-      place = is.place;
+      entry = is.entry;
       numbered_so = is.numbered_so;
       near = is.near;
-      own = is.own;
-      serial = is.serial;
       binding = is.binding;
       living = is.living;
       lives = is.lives;
       shape = is.shape;
-      layer = is.layer;
-      caller = is.caller;
-      others = is.others;
-      signature = is.signature;
-      layers = is.layers;
-      at = is.at;
-      list = is.list;
-      last = is.last;
-      under = is.under;
-      name = is.name;
-      level = is.level;
+      base = is.base;
+      frame = is.frame;
+      listed = is.listed;
       few = is.few;
-      words = is.words;
       small = is.small;
       number = is.number;
       numbered = is.numbered;

@@ -41,7 +41,7 @@ use Rattle.program_places.specs.Placed.{Placed}
 use Rattle.counter_runs.specs.Words.{telling}
 use Rattle.element_runs.specs.Arrays.{IsArray}
 use Rattle.element_runs.specs.Subscripts.{SubscriptComes}
-use Rattle.argument_runs.specs.Parameters.{IsParameter}
+use Rattle.parameter_runs.specs.Around.{IsParameterAround}
 use Rattle.list_calls.specs.Arguments.{EachGives, Way, arguments_of, setting_told}
 use Rattle.list_calls.specs.ListKnown.{AreStored, IsStored}
 use Rattle.list_calls.specs.Passed.{IsNamed}
@@ -163,7 +163,7 @@ pub record KnowsNumbers (s : Scope) (k : Setting) : Type 0 where
   pub variables : (x : Spot) → is_known s x ≡ true → IsNumber k.block x
   pub arrays : s.elements ≡ true → (x : Spot) → is_array_known s x ≡ true → IsArray k.block x (bounds_known s x)
   pub narrows : s.narrows ≡ true → (x : Spot) → is_narrow_known s x ≡ true → IsScalar k.block x (type_known s x)
-  pub parameters : (x : Spot) → is_received s x ≡ true → IsParameter k.block x
+  pub parameters : (x : Spot) → is_received s x ≡ true → IsParameterAround k.block x
   pub functions : (level n : ℕ) → s.is_function level n ≡ true → L.Does k 0 (call_number level n)
   pub texts : s.texts ≡ true → KnowsTexts s k
   pub given : gives_lists s ≡ true → KnowsGiven s k
@@ -439,7 +439,7 @@ pub record IsReady (s : Scope) (valued : Bool) (k : Block) (labels : List Label)
   pub variables : (x : Spot) → is_known s x ≡ true → IsNumber k x
   pub arrays : s.elements ≡ true → (x : Spot) → is_array_known s x ≡ true → IsArray k x (bounds_known s x)
   pub narrows : s.narrows ≡ true → (x : Spot) → is_narrow_known s x ≡ true → IsScalar k x (type_known s x)
-  pub parameters : (x : Spot) → is_received s x ≡ true → IsParameter k x
+  pub parameters : (x : Spot) → is_received s x ≡ true → IsParameterAround k x
   pub codes : s.codes ≡ true → HasCode k
   pub calls : KnowsCalls s k labels most left'
   pub based : s.locates ≡ true → KnowsBased s k labels most left'

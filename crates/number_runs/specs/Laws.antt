@@ -1,5 +1,5 @@
 -- The laws of such blocks: each expression leaves what it means, and each statement does what it means.
-use Rattle.std.specs.Prelude.{ℕ, ◌≤◌, ◌≡◌, ◌++◌, Bool, true, false, List, []}
+use Rattle.std.specs.Prelude.{ℕ, ◌≤◌, ◌≡◌, ◌++◌, Bool, true, List, []}
 use Rattle.pli_typing.specs.TypedTree as Y
 use Rattle.pli_meaning.specs.Control.{Label}
 use Rattle.pli_meaning.specs.DeclaredShapes.{variables_of_block}
@@ -15,7 +15,7 @@ use Rattle.expression_runs.specs.Laws as L
 use Rattle.expression_runs.specs.Values.{Setting}
 use Rattle.expression_runs.specs.Variables.{IsNumber, Spot}
 use Rattle.element_runs.specs.Arrays.{IsArray}
-use Rattle.argument_runs.specs.Parameters.{IsParameter}
+use Rattle.parameter_runs.specs.Around.{IsParameterAround}
 use Rattle.test_runs.specs.Tests.{Tests}
 use Rattle.number_runs.specs.Knowledge.{AreAround, AreStanding, HasFrame, HasLists, IsReady, IsUnraised, KnowsLists}
 use Rattle.number_runs.specs.Knowledge.{KnowsNumbers, KnowsPuts, KnowsRaises, Standing, KnowsAroundTexts}
@@ -68,7 +68,7 @@ pub record BodiesDo : Type 0 where
       ((x : Spot) → is_known s x ≡ true → IsNumber k x) →
       (s.elements ≡ true → (x : Spot) → is_array_known s x ≡ true → IsArray k x (bounds_known s x)) →
       (s.narrows ≡ true → (x : Spot) → is_narrow_known s x ≡ true → IsScalar k x (type_known s x)) →
-      ((x : Spot) → is_received s x ≡ true → IsParameter k x) → (s.codes ≡ true → HasCode k) →
+      ((x : Spot) → is_received s x ≡ true → IsParameterAround k x) → (s.codes ≡ true → HasCode k) →
       (s.texts ≡ true → KnowsConstants k) → KnowsLists k → (s.locates ≡ true → KnowsPlaced s k most) →
       KnowsPuts s k most
   -- and texts may wait, if functions are called above them

@@ -30,7 +30,7 @@ use Rattle.number_runs.specs.Numbers.{Scope, bounds_known, is_array_known, is_kn
 use Rattle.number_runs.specs.Numbers.{type_known}
 use Rattle.number_runs.proofs.Puts.{narrow_placed}
 use Rattle.number_runs.proofs.Received.{parameter_placed}
-use Rattle.argument_runs.specs.Parameters.{IsParameter}
+use Rattle.parameter_runs.specs.Around.{IsParameterAround}
 use Rattle.scalar_runs.specs.Scalars.{IsScalar}
 use Rattle.phase_runs.specs.Units.{Past, past_point}
 use Rattle.unit_numbers.proofs.Mains.{Main, block_for, run_for}
@@ -89,7 +89,7 @@ pub record IsSettled (s : Scope) (k : Block) (most : ℕ) : Type 0 where
   pub variables : (x : Spot) → is_known s x ≡ true → IsNumber k x
   pub arrays : s.elements ≡ true → (x : Spot) → is_array_known s x ≡ true → IsArray k x (bounds_known s x)
   pub narrows : s.narrows ≡ true → (x : Spot) → is_narrow_known s x ≡ true → IsScalar k x (type_known s x)
-  pub parameters : (x : Spot) → is_received s x ≡ true → IsParameter k x
+  pub parameters : (x : Spot) → is_received s x ≡ true → IsParameterAround k x
   pub code : HasCode k
   -- without texts
   pub wordless : s.texts ≡ false
