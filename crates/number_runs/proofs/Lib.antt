@@ -12,6 +12,7 @@ pub mod AreaKnown
 pub mod Unset
 pub mod Takes
 pub mod BlocksTaken
+pub mod BeginsSaved
 pub mod Waiting
 pub mod Expressions
 pub mod Unraised
