@@ -16,14 +16,14 @@ use Rattle.nested_calls.proofs.NestedVariables.{Over, over_known, over_nested, o
 use Rattle.begin_runs.specs.BeginBlocks.{AreMade, Inner, IsBegin, inner_block, inner_layer}
 
 -- the running block is its own ancestor at its level
-own_parent :
+pub own_parent :
     {k : Block} {numbers : ℕ → ℕ} {p : Point} → IsNested k → IsBegun k → IsAmong k numbers p →
     parent_at k k.environment.level ≡ own_height k
 own_parent {k} {p = p} nest b o =
     ap (λ xs. height_of (ancestor xs (newest_height xs) k.environment.level)) (sym o.later.activations)
     ∙ own_ancestor nest.own (newest_at b o)
 
-pub inner_over :
+unfoldable pub inner_over :
     (k : Block) (labels : List Label) (x : Inner) (index more : ℕ) → IsBegin k x index more → IsNested k → (p : Point)
     (numbers : ℕ → ℕ) → IsAmong k numbers p → AreMade k x index p numbers →
     IsBegun (inner_block k labels p numbers x index) →

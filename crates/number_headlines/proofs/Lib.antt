@@ -21,6 +21,10 @@ pub mod ListSites
 pub mod ListMade
 pub mod ListEntered
 pub mod ListBodies
+pub mod BeginSites
+pub mod BeginWords
+pub mod BeginEntered
+pub mod BeginBodies
 pub mod Bodies
 pub mod Kept
 pub mod Rows

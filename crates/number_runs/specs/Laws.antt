@@ -93,8 +93,8 @@ pub record TemporariesFit : Type 0 where
       are_known (variables_of_block e.program block) ≡ true →
       are_statements s valued (labels_in body ++ []) body ≡ true → statements_need body ≤ held_registers →
       statements_need body ≤ block_held e block body
-  -- nor do those of the begin blocks among them, if each needs no more than may be saved
+  -- nor do those of the begin blocks among them
   pub begins :
       (s : Scope) (valued : Bool) (e : Environment) (block : ℕ) (body : Y.Stmts) →
-      ((head : Y.BlockHead) (inner : Y.Stmts) → s.is_begin head inner ≡ true → statements_need inner ≤ held_registers) →
-      are_statements s valued (labels_in body ++ []) body ≡ true → begins_need body ≤ block_held e block body
+      are_statements s valued (labels_in body ++ []) body ≡ true → begins_need body ≤ held_registers →
+      begins_need body ≤ block_held e block body

@@ -32,6 +32,7 @@ pub record Names : Type 0 where
   pub locates : Bool
   pub pointers : List BlockPlace
   pub returns : Bool
+  pub is_begin : Y.BlockHead → Y.Stmts → Bool
 
 abbrev pub no_names : Names
 no_names =
@@ -45,6 +46,7 @@ no_names =
       locates = false;
       pointers = [];
       returns = false;
+      is_begin = λ head body. false;
     }
 
 -- the program, the level of the block whose expressions these are, the blocks whose variables they may name, those
@@ -104,6 +106,7 @@ inside s head body =
       locates = (s.inner head body).locates;
       pointers = (s.inner head body).pointers;
       returns = (s.inner head body).returns;
+      is_begin = (s.inner head body).is_begin;
     }
 
 -- ---- variables
