@@ -3,6 +3,7 @@
 ghost use Rattle.number_headlines.specs.AlarmRows.{AlarmKept};
 ghost use Rattle.number_headlines.specs.AreaRows.{GatherKept};
 ghost use Rattle.number_headlines.specs.ArrayRows.{SieveKept};
+ghost use Rattle.number_headlines.specs.BeginRows.{BeginsKept};
 ghost use Rattle.number_headlines.specs.CallRows.{CallingKept};
 ghost use Rattle.number_headlines.specs.CountRows.{CountingKept};
 ghost use Rattle.number_headlines.specs.EuclidRows.{EuclidKept};
@@ -149,6 +150,14 @@ pub fn euclid_kept()
 /// A worked row with both: variables that INITIAL gave values are passed by reference.
 pub fn lent_kept()
     ensures { LentKept }
+{
+    number_headlines_kept();
+}
+
+/// A worked row with begin blocks: in the turns of a loop, in one another, with a procedure in one, and in a procedure
+/// that calls itself from there.
+pub fn begins_kept()
+    ensures { BeginsKept }
 {
     number_headlines_kept();
 }
