@@ -48,7 +48,7 @@ use Rattle.list_calls.proofs.ListKnown.{list_over}
 
 -- ---- the words of a name
 
-abbrev name_at : (serial place : ℕ) → Reference
+abbrev pub name_at : (serial place : ℕ) → Reference
 name_at serial place = record { serial = serial; signature = 0; place = place }
 
 name_here : (place serial : ℕ) (told : ℕ → Option ℕ) → IsTold (name_told place serial told) (name_at serial place)
@@ -120,14 +120,14 @@ still_told q place serial told r less h =
 
 -- ---- a variable of the newest activation, whose layer tells its name
 
-record Tells (q : Point) (φ : Layer) (a : Activation) (as' : List Activation) (d : Declared) : Type 0 where
-  serial : ℕ
-  binds : Binds q a as'
-  bound :
+pub record Tells (q : Point) (φ : Layer) (a : Activation) (as' : List Activation) (d : Declared) : Type 0 where
+  pub serial : ℕ
+  pub binds : Binds q a as'
+  pub bound :
       binding_of binds.bindings d.index
       ≡ Some (record { variable = d.index; name = VariableName serial; shape = shape_of [] d.declared })
-  told : serial < 2 ^ 64 → IsTold φ.told (name_at serial d.place)
-  above : φ.at + d.place + 16 ≤ φ.top
+  pub told : serial < 2 ^ 64 → IsTold φ.told (name_at serial d.place)
+  pub above : φ.at + d.place + 16 ≤ φ.top
 
 abbrev binding_now : Point → Declared → Binding
 binding_now p d =
@@ -206,7 +206,7 @@ tells_kept w code e p φ φs a as' d (y ∷ xs) n less listed are h =
     (y.index + 1) (omega (arith, less, late)) listed.1 are.1
     (tells_still w code p φ φs a as' d y (omega (arith, less, late)) are.0 h)
 
-tells_each :
+pub tells_each :
     (w : Surroundings) (code : List Instr) (e : Environment) (p : Point) (φ : Layer) (φs : List Layer) (a : Activation)
     (as' : List Activation) (d : Declared) (xs : List Declared) (n : ℕ) →
     AreListed e n xs → AllMayBegin w code p φ φs xs → Binds p a as' → Among d xs →
@@ -250,7 +250,7 @@ own_frame : (k : Block) (level base : ℕ) → level ≡ k.environment.level →
 own_frame k level base own (inl is) = is.1
 own_frame k level base own (inr is) = absurd (cc (sym (eq-eqb level k.environment.level own) ∙ is.0))
 
-told_own :
+pub told_own :
     (k : Block) (x : Spot) (is : IsNumber k x) (q : Point) (φ : Layer) (φs : List Layer) (a : Activation)
     (as' : List Activation) (d : Declared) (t : Tells q φ a as' d) →
     k.first.state.activations ≡ q.state.activations → k.first.control.layers ≡ φ ∷ φs →
@@ -393,7 +393,7 @@ told_placed :
 told_placed ls frame serial n m e h = subst (λ j. HasTold ls frame (name_at serial j)) (sym e) h
 
 -- the layers below the new one tell what those of the block told
-over_telling :
+pub over_telling :
     {k inner : Block} {level : ℕ} {numbers : ℕ → ℕ} {p : Point} (x : Spot) (i : Over k inner level p) → IsNested k →
     IsBegun k → IsAmong k numbers p → level ≤ k.environment.level → x.level ≤ level →
     inner.environment.program ≡ k.environment.program → inner.environment.parts ≡ k.environment.parts →

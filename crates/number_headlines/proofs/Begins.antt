@@ -23,7 +23,7 @@ use Rattle.pli_coding.specs.StaticData.{static_data}
 use Rattle.pli_coding.specs.StaticForms.{initial_datum}
 use Rattle.pli_coding.specs.Statements.{block_held, block_words, stmts_code}
 use Rattle.code_marks.proofs.DataOnce.{placed_same}
-use Rattle.run_steps.specs.DataNamed.{IsNamed}
+use Rattle.run_steps.specs.DataNamed.{IsNamed, IsPlaced}
 use Rattle.run_steps.proofs.DataNamed.{is_named_back, is_named_front}
 use Rattle.program_runs.specs.Initial.{Begins}
 use Rattle.program_runs.proofs.Initial.{bare_begins}
@@ -50,9 +50,9 @@ abbrev pub AllBegunIn : Y.Program → List Y.DeclaredVariable → Type 0
 AllBegunIn program ds =
     EachBegins (constants_in (code_for program)) (linked_code (code_for program)) (links_for program).data' ds
 
--- all that some code names, the program's names
-abbrev AreNamed : Y.Program → Code → Type 0
-AreNamed program code = (x : Datum) → IsNamed x code → IsNamed x (code_for program)
+-- all data that some code names have places in the program's
+abbrev pub AreNamed : Y.Program → Code → Type 0
+AreNamed program code = (x : Datum) → IsNamed x code → IsPlaced x (links_for program).data'
 
 -- ---- one variable
 
@@ -80,18 +80,14 @@ declared_begins :
     AreNamed program (if is_automatic d.class then automatic_made e line place d else []) → BegunIn program d
 declared_begins program e line place d fits is named = by (starts d is)
   where
-    code : Code
-    code = code_for program
-
     by : Starts d → BegunIn program d
     by (inl bare) =
-        bare_begins (constants_in code) (linked_code code) (links_for program).data' d bare.0 bare.1
+        bare_begins (constants_in (code_for program)) (linked_code (code_for program)) (links_for program).data' d
+        bare.0 bare.1
     by (inr one) =
         let x = InitialValues (one.leaf ∷ []) in
         let there = named x (subst (IsNamed x) (sym (made_is e line place d is)) (list_named e place d x one.datum)) in
-        initial_told program d one.leaf fits
-        (placed_same x (data_start code) (static_data code) ∙ static_has code x there) one.datum one.given one.some
-        one.few
+        initial_told program d one.leaf fits there one.datum one.given one.some one.few
 
 one_begins :
     (program : Y.Program) (e : Environment) (line place : ℕ) (d : Y.DeclaredVariable) →
@@ -108,7 +104,7 @@ one_begins program e line place d fits (inr parameter) named =
 
 -- ---- those of a block
 
-each_begins :
+pub each_begins :
     (program : Y.Program) (e : Environment) (line index : ℕ) (ds : List Y.DeclaredVariable) →
     FitsMemory (picture_of parts program) → are_known ds ≡ true → AreNamed program (variables_made e line index ds) →
     AllBegunIn program ds
@@ -184,8 +180,11 @@ block_begins program head body parameters result fits known is =
     let e = program_environment program in
     each_begins program (environment_for program head) head.line 0 (variables_of_block program head.number) fits
     (block_known program.variables head.number known).known
-    (λ x h. program_named program x
-    (procedure_named e head.number _ program.procedures x is (variables_named e head body parameters result x h)))
+    (λ x h.
+    placed_same x (data_start (code_for program)) (static_data (code_for program))
+    ∙ static_has (code_for program) x
+    (program_named program x
+    (procedure_named e head.number _ program.procedures x is (variables_named e head body parameters result x h))))
 
 -- where the same is told
 pub begins_at :

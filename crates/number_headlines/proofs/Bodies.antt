@@ -42,14 +42,13 @@ use Rattle.nested_calls.proofs.NestedCalls.{call_coded, call_of, given_in, neste
 use Rattle.nested_calls.proofs.NestedFunctions.{deep_function_ends, nested_function_does}
 use Rattle.number_runs.specs.Knowledge as Left
 use Rattle.number_runs.specs.Knowledge.{IsReady, IsUnraised, IsValued, KnowsAroundTexts, KnowsCalls, KnowsPuts}
-use Rattle.number_runs.specs.Knowledge.{KnowsRaises, call_number, call_statement, most_set, KnowsSignals}
+use Rattle.number_runs.specs.Knowledge.{KnowsRaises, call_number, call_statement, most_set, KnowsSignals, KnowsBegins}
 use Rattle.number_runs.specs.Numbers.{without_located}
 use Rattle.number_runs.specs.Statements.{statements_set}
 use Rattle.number_runs.specs.Variables.{bytes_of}
 use Rattle.number_runs.proofs.Homes.{none_raised}
 use Rattle.number_runs.proofs.Statements.{body_does}
 use Rattle.number_runs.proofs.Puts.{puts_known}
-use Rattle.number_runs.proofs.BlocksTaken.{registers_held}
 use Rattle.number_runs.proofs.Unraised.{around_texts_end}
 use Rattle.number_headlines.specs.Programs.{scope_of}
 use Rattle.number_headlines.proofs.Deciding.{by_decision, entry_low}
@@ -63,42 +62,42 @@ use Rattle.number_headlines.proofs.Mains.{Main, most_for, result_of, run_for}
 use Rattle.number_headlines.proofs.Puts.{constants_known, error_routine, lists_known}
 use Rattle.number_headlines.proofs.Based.{based_known, placed_known}
 use Rattle.number_headlines.proofs.Running.{EachBody, EachGiven, IsEntered, IsRunning, Running, block_of_run, told_run}
-use Rattle.number_headlines.proofs.Running.{told_running, waited_running}
-use Rattle.number_headlines.proofs.Tables.{block_known}
+use Rattle.number_headlines.proofs.Running.{told_running, waited_running, IsCalledForm, environment_of_run}
+use Rattle.number_headlines.proofs.BeginBodies.{knows_begins}
 
 -- ---- at the end of a block
 
 returns_by :
     {program : Y.Program} (m : Main program) (input : List ℕ) (acts : ℕ) (valued : Bool) (more : ℕ) (a : Running)
-    (blocks : ℕ) → IsRunning m input acts valued more a blocks → valued ≡ false →
+    (blocks : ℕ) → IsRunning m input acts valued more a blocks → IsCalledForm program a → valued ≡ false →
     IsOwn (block_of_run program input acts valued more a) left_over
-returns_by m input acts false more a blocks h e =
+returns_by m input acts false more a blocks h f e =
     record {
-      owner = refl;
-      end = h.ends.place;
-      near = h.ends.near;
+      owner = f.owner;
+      end = f.ends.place;
+      near = f.ends.near;
       enough = omega arith;
       function = refl;
       begun = h.begun;
-      kind = h.kind;
-      registers = h.saved;
+      kind = f.kind;
+      registers = f.saved;
     }
-returns_by m input acts true more a blocks h e = absurd (cc e)
+returns_by m input acts true more a blocks h f e = absurd (cc e)
 
 values_by :
     {program : Y.Program} (m : Main program) (input : List ℕ) (acts : ℕ) (valued : Bool) (more : ℕ) (a : Running)
-    (blocks : ℕ) → IsRunning m input acts valued more a blocks → valued ≡ true →
+    (blocks : ℕ) → IsRunning m input acts valued more a blocks → IsCalledForm program a → valued ≡ true →
     IsValued (block_of_run program input acts valued more a) left_over
-values_by m input acts false more a blocks h e = absurd (cc e)
-values_by m input acts true more a blocks h e =
+values_by m input acts false more a blocks h f e = absurd (cc e)
+values_by m input acts true more a blocks h f e =
     record {
-      owner = refl;
-      end = h.ends.place;
-      near = h.ends.near;
+      owner = f.owner;
+      end = f.ends.place;
+      near = f.ends.near;
       enough = omega arith;
       function = refl;
-      kind = h.kind;
-      saved = h.saved;
+      kind = f.kind;
+      saved = f.saved;
     }
 
 -- ---- its statements, if the calls in them do what they mean
@@ -189,6 +188,14 @@ EachCall {program} m input acts valued more a blocks =
     (block_of_run program input acts valued more (record a { layers = layers; texts = texts })) own
     (most_for program) left_over
 
+-- and begin blocks do
+abbrev EachBegin : {program : Y.Program} → Main program → (input : List ℕ) → (acts : ℕ) → (valued : Bool) →
+    (more : ℕ) → Running → (blocks : ℕ) → Type 0
+EachBegin {program} m input acts valued more a blocks =
+    (layers : List Layer → List Layer) → IsRunning m input acts valued more (record a { layers = layers }) blocks →
+    KnowsBegins (scope_of program m.called a.head a.body)
+    (block_of_run program input acts valued more (record a { layers = layers })) (labels_in a.body ++ []) left_over
+
 -- so texts may wait there
 texts_of :
     MarkedOnce → {program : Y.Program} (m : Main program) (input : List ℕ) (acts : ℕ) (valued : Bool) (more : ℕ)
@@ -213,9 +220,10 @@ ready :
     (a : Running) (blocks : ℕ) → acts + 1 < 2 ^ 64 → (e : IsEntered m input acts valued more a blocks) →
     EachCall m input acts valued more a blocks →
     EachGiven m input acts valued more a e.running.free.layer e.running.free.below →
+    EachBegin m input acts valued more a blocks →
     IsReady (scope_of program m.called a.head a.body) valued (block_of_run program input acts valued more a)
     (labels_in a.body ++ []) (most_for program) left_over
-ready once {program} m input acts valued more a blocks few e calls given =
+ready once {program} m input acts valued more a blocks few e calls given begins =
     let h = e.running in
     let enough = h.enough in
     let φ = h.free.layer in
@@ -226,7 +234,7 @@ ready once {program} m input acts valued more a blocks few e calls given =
       begun = h.begun;
       acts = few;
       turns = omega (arith, enough);
-      held = omega arith;
+      held = h.held.all;
       raises = raises_of once m input acts valued more a blocks few h;
       variables = h.variables;
       arrays = λ may. h.arrays;
@@ -238,6 +246,7 @@ ready once {program} m input acts valued more a blocks few e calls given =
           based_known m input acts valued more a blocks few e (unraised_of once m input acts valued more a blocks few h)
           may;
       jumps = λ labels level label line index includes out. absurd (cc out);
+      begins = begins a.layers h;
       texts = λ may. texts_of once m input acts valued more a blocks few a.layers h calls;
       signals = signals_of once m input acts valued more a blocks few h;
       puts = λ may. puts_of once m input acts valued more a blocks few e;
@@ -254,6 +263,7 @@ ready once {program} m input acts valued more a blocks few e calls given =
             calls (λ ls. with_waits waits φ ∷ φs) a.texts (labels_in a.body ++ []) (told_running h waits);
         given = given;
         jumps = λ waits labels level label line index includes out. absurd (cc out);
+        begins = λ waits. begins (λ ls. with_waits waits φ ∷ φs) (told_running h waits);
         texts = λ waits may.
             texts_of once m input acts valued more a blocks few (λ ls. with_waits waits φ ∷ φs)
             (told_running h waits) calls;
@@ -267,8 +277,8 @@ ready once {program} m input acts valued more a blocks few e calls given =
         level = refl;
         own = h.level;
         block = h.own;
-        returns = λ e. returns_by m input acts valued more a blocks h e;
-        values = λ e. values_by m input acts valued more a blocks h e;
+        returns = λ may' e. returns_by m input acts valued more a blocks h (h.home may') e;
+        values = λ may' e. values_by m input acts valued more a blocks h (h.home may') e;
       };
     }
 
@@ -277,10 +287,11 @@ frame_left :
     (once : MarkedOnce) {program : Y.Program} (m : Main program) (input : List ℕ) (acts : ℕ) (valued : Bool) (more : ℕ)
     (a : Running) (blocks : ℕ) (few : acts + 1 < 2 ^ 64) (e : IsEntered m input acts valued more a blocks)
     (calls : EachCall m input acts valued more a blocks)
-    (given : EachGiven m input acts valued more a e.running.free.layer e.running.free.below) →
-    Left.HasFrame (ready once m input acts valued more a blocks few e calls given) 0 (statements_set a.body)
+    (given : EachGiven m input acts valued more a e.running.free.layer e.running.free.below)
+    (begins : EachBegin m input acts valued more a blocks) →
+    Left.HasFrame (ready once m input acts valued more a blocks few e calls given begins) 0 (statements_set a.body)
 unfolding ready
-frame_left once m input acts valued more a blocks few e calls given may =
+frame_left once m input acts valued more a blocks few e calls given begins may =
     let words = e.words in
     (omega arith, omega (arith, words))
 
@@ -289,15 +300,15 @@ body_each :
     (a : Running) (blocks : ℕ) → acts + 1 < 2 ^ 64 → (e : IsEntered m input acts valued more a blocks) →
     EachCall m input acts valued more a blocks →
     EachGiven m input acts valued more a e.running.free.layer e.running.free.below →
+    EachBegin m input acts valued more a blocks →
     EachDoes (block_of_run program input acts valued more a) (labels_in a.body ++ []) a.body a.index left_over
-body_each once {program} m input acts valued more a blocks few e calls given =
+body_each once {program} m input acts valued more a blocks few e calls given begins =
     let h = e.running in
     let s = scope_of program m.called a.head a.body in
-    let known' = (block_known program.variables a.head.number m.known).known in
     body_does s valued (block_of_run program input acts valued more a) a.body a.index
-    (most_for program) left_over (ready once m input acts valued more a blocks few e calls given) h.statements
-    (registers_held s valued (environment_for program a.head) a.head.number a.body known' h.statements h.fits)
-    (frame_left once m input acts valued more a blocks few e calls given) h.placed
+    (most_for program) left_over (ready once m input acts valued more a blocks few e calls given begins) h.statements
+    h.held.own h.held.begins
+    (frame_left once m input acts valued more a blocks few e calls given begins) h.placed
 
 -- ---- calls, if the statements of blocks that may be entered one level less deep do what they mean
 
@@ -327,7 +338,7 @@ call_by :
     EachBody m input acts more → (words : ℕ) → words ≤ most_set →
     (labels : List Label) (level number line index : ℕ) → Inner m a.head [] false level number → line < 2 ^ 31 →
     Linked (links_for program) (linked_code (code_for program)) index
-    (stmt_code (environment_for program a.head) (set_aside words) (call_statement level number line)) →
+    (stmt_code (environment_of_run program a) (set_aside words) (call_statement level number line)) →
     DoesWith words (block_of_run program input acts valued (suc more) a) labels (call_statement level number line) index
     left_over
 call_by once {program} m input acts valued more b a few h each words set labels level number line index i less l =
@@ -338,7 +349,7 @@ call_by once {program} m input acts valued more b a few h each words set labels 
     let c0 = callee_in i more k 0 in
     let last = call_of c0 in
     let l0 = subst (λ n. Linked (links_for program) (linked_code (code_for program)) index
-    (stmt_code (environment_for program a.head) (set_aside words) (call_statement level n line))) (sym i.numbered) l in
+    (stmt_code (environment_of_run program a) (set_aside words) (call_statement level n line))) (sym i.numbered) l in
     let eq = call_coded words k c0 level line in
     let l' = subst (Linked (links_for program) (linked_code (code_for program)) index) eq l0 in
     let size = ap (λ u. size_of u) eq in
@@ -466,3 +477,6 @@ each_body once m input acts few (suc more) valued a blocks h =
     knows_calls once m input acts valued more blocks (record a { layers = layers; texts = texts })
     few is (each_body once m input acts few more) own)
     (knows_given once m input acts valued more blocks a few h (each_body once m input acts few more))
+    (λ layers is.
+    knows_begins m input acts valued more blocks (record a { layers = layers }) few is
+    (each_body once m input acts few more) (labels_in a.body ++ []))

@@ -53,7 +53,7 @@ use Rattle.number_headlines.proofs.Mains.{Main, made_system, result_of, surround
 use Rattle.number_headlines.proofs.Places.{alike_at, around_is, is_around}
 use Rattle.number_headlines.proofs.Pointers.{none_holding, none_pointing}
 use Rattle.number_headlines.proofs.Running.{IsEntered, Running, block_of_run, free_among}
-use Rattle.number_headlines.proofs.Running.{table_later}
+use Rattle.number_headlines.proofs.Running.{called_held, table_later}
 use Rattle.number_headlines.proofs.Telling.{called_block, outer_telling_by, own_telling_by, serial_given}
 use Rattle.number_headlines.proofs.Telling.{serials_small}
 use Rattle.list_calls.specs.Passed.{IsTelling}
@@ -390,10 +390,10 @@ entered once {program} m {input} {acts} {valued} {more} {b} {a} {p} {numbers} o 
       running = record {
         own = own_block program i.head i.body (result_of v) i.is;
         shallow = omega (arith, level);
-        kind = refl;
         level = refl;
-        saved = omega arith;
-        ends = ends_by v once m i;
+        held = called_held m v i.head i.body i.statements i.fits i.begins
+            (entered_at i k call p numbers) refl refl;
+        home = λ may. record { kind = refl; saved = omega arith; ends = ends_by v once m i; owner = refl };
         placed = body_placed once program i.head i.body (result_of v) m.loadable i.is;
         statements = i.statements;
         fits = i.fits;

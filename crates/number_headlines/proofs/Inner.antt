@@ -10,7 +10,7 @@ use Rattle.pli_meaning.specs.DeclaredShapes.{head_of, procedure_numbered, variab
 use Rattle.pli_meaning.specs.Executing.{labels_in}
 use Rattle.pli_coding.specs.Registers.{held_registers}
 use Rattle.program_places.specs.Programs.{IsReceiving, environment_for}
-use Rattle.number_runs.specs.Statements.{are_statements, statements_need, statements_set}
+use Rattle.number_runs.specs.Statements.{are_statements, begins_need, statements_need, statements_set}
 use Rattle.number_headlines.specs.Programs.{are_inner, are_own, body_of, has_result, is_body}
 use Rattle.number_headlines.specs.Programs.{is_callable, is_declared_if, is_inner, is_inner_if}
 use Rattle.number_headlines.specs.Programs.{is_valued, most_waiting, scope_of, stand_alike}
@@ -31,6 +31,7 @@ pub record Inner {program : Y.Program} (m : Main program) (caller : Y.BlockHead)
     pub statements :
         are_statements (scope_of program m.called head body) valued (labels_in body ++ []) body ≡ true
     pub fits : statements_need body ≤ held_registers
+    pub begins : begins_need body ≤ held_registers
     pub waiting : statements_set body ≤ most_waiting
 
 number_found :
@@ -121,9 +122,11 @@ inner_is {program} m caller count valued level number h =
         (is_body s (is_valued p.result) body) g in
         let own = subst (λ v. is_body s v body ≡ true) (valued_is valued p.result b.0) u.1 in
         let j = and_parts (are_statements s valued (labels_in body ++ []) body)
-        (nat_le (statements_need body) held_registers && nat_le (statements_set body) most_waiting) own in
-        let l = and_parts (nat_le (statements_need body) held_registers) (nat_le (statements_set body) most_waiting) j.1
-        in
+        (nat_le (statements_need body) held_registers
+        && (nat_le (begins_need body) held_registers && nat_le (statements_set body) most_waiting)) own in
+        let l = and_parts (nat_le (statements_need body) held_registers)
+        (nat_le (begins_need body) held_registers && nat_le (statements_set body) most_waiting) j.1 in
+        let r = and_parts (nat_le (begins_need body) held_registers) (nat_le (statements_set body) most_waiting) l.1 in
         let n = number_found number p program.procedures e in
         record {
           parameters = p.parameters;
@@ -141,7 +144,8 @@ inner_is {program} m caller count valued level number h =
             alike = d.1;
             statements = j.0;
             fits = leb-true (statements_need body) held_registers l.0;
-            waiting = leb-true (statements_set body) most_waiting l.1;
+            begins = leb-true (begins_need body) held_registers r.0;
+            waiting = leb-true (statements_set body) most_waiting r.1;
           };
         }
 

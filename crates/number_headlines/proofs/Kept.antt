@@ -67,7 +67,7 @@ use Rattle.number_headlines.proofs.Mains.{spare, start_for, surroundings_for}
 use Rattle.number_headlines.proofs.Loops.{after_waits, after_words}
 use Rattle.number_headlines.proofs.Places.{around_is}
 use Rattle.number_headlines.proofs.Pointers.{pointers_own}
-use Rattle.number_headlines.proofs.Running.{IsEntered, IsPointing, Running, run_of, table_later}
+use Rattle.number_headlines.proofs.Running.{IsEntered, IsPointing, Running, called_held, run_of, table_later}
 use Rattle.number_headlines.proofs.Tables.{has_start, has_table, held_block}
 
 -- ---- the main procedure as the first block that runs
@@ -259,10 +259,14 @@ main_running once {program} m input acts b =
       running = record {
         own = own_block program m.head m.body None found;
         shallow = omega (arith, level);
-        kind = refl;
         level = refl;
-        saved = omega arith;
-        ends = end_is once program m.head m.body m.loadable found;
+        held = called_held m false m.head m.body m.statements m.fits m.begins (main_run m input acts) refl refl;
+        home = λ may. record {
+          kind = refl;
+          saved = omega arith;
+          ends = end_is once program m.head m.body m.loadable found;
+          owner = refl;
+        };
         placed = body_placed once program m.head m.body None m.loadable found;
         statements = m.statements;
         fits = m.fits;

@@ -22,6 +22,10 @@ pub mod ListSites
 pub mod ListMade
 pub mod ListEntered
 pub mod ListBodies
+pub mod BeginSites
+pub mod BeginWords
+pub mod BeginEntered
+pub mod BeginBodies
 pub mod Bodies
 pub mod Kept
 pub mod Rows
@@ -44,3 +48,4 @@ pub mod InitialRows
 pub mod EuclidRows
 pub mod LentRows
 pub mod HolderRows
+pub mod BeginRows

@@ -46,7 +46,7 @@ use Rattle.number_headlines.proofs.Inner.{Inner, inner_is}
 use Rattle.number_headlines.proofs.ListPlaces.{function_taking, procedure_taking}
 use Rattle.number_headlines.proofs.Mains.{Main, most_for}
 use Rattle.number_headlines.proofs.Running.{EachBody, EachGiven, IsEntered, IsRunning, Running, around_for}
-use Rattle.number_headlines.proofs.Running.{block_of_run, told_run, told_running}
+use Rattle.number_headlines.proofs.Running.{block_of_run, environment_of_run, told_run, told_running}
 use Rattle.number_headlines.proofs.Based.{tabled_at}
 use Rattle.number_headlines.proofs.Telling.{serial_given}
 use Rattle.number_headlines.specs.Programs.{scope_of}
@@ -177,7 +177,7 @@ given_call_by :
     AreStored (block_of_run program input acts valued (suc more) a).first t.ways → line < 2 ^ 31 →
     need ≤ (block_of_run program input acts valued (suc more) a).registers →
     Linked (links_for program) (linked_code (code_for program)) index
-    (stmt_code (environment_for program a.head) (set_aside t.words) (given_statement level number line t.ways)) →
+    (stmt_code (environment_of_run program a) (set_aside t.words) (given_statement level number line t.ways)) →
     EachGives (setting_around t.words (block_of_run program input acts valued (suc more) a) labels line
     (most_for program)) need t.layer t.others t.words (t.words + 6 * length t.ways) t.layer.waits t.ways →
     DoesWith t.words (block_of_run program input acts valued (suc more) a) labels
@@ -194,7 +194,7 @@ given_call_by once {program} m input acts valued more b a few h each labels leve
     let giving = giving_in k u0 in
     let last = last_of u0 in
     let l0 = subst (λ n. Linked (links_for program) (linked_code (code_for program)) index
-    (stmt_code (environment_for program a.head) (set_aside t0.words) (given_statement level n line t0.ways)))
+    (stmt_code (environment_of_run program a) (set_aside t0.words) (given_statement level n line t0.ways)))
     (sym i.numbered) l in
     let eq = ap (λ c. one ++ c) (call_coded z u0 0) in
     let l' = subst (Linked (links_for program) (linked_code (code_for program)) index) eq l0 in

@@ -57,7 +57,7 @@ use Rattle.number_headlines.proofs.ListPlaces.{taking_ends}
 use Rattle.number_headlines.proofs.Mains.{Main, result_of, surroundings_for, made_system}
 use Rattle.number_headlines.proofs.Pointers.{none_holding, none_pointing}
 use Rattle.number_headlines.proofs.Running.{IsEntered, IsRunning, Running, block_of_run, free_among, function_by}
-use Rattle.number_headlines.proofs.Running.{table_later}
+use Rattle.number_headlines.proofs.Running.{called_held, table_later}
 use Rattle.variable_runs.specs.Known.{IsKnown}
 use Rattle.variable_runs.proofs.Known.{known_number}
 use Rattle.variable_runs.specs.Lists.{Among, all_made, first_all, layer_after, newest_all}
@@ -549,10 +549,14 @@ given_entered once {program} m {input} {acts} {valued} {more} {b} {a} {ns} {v} o
       running = record {
         own = own_block program i.head i.body (result_of v) i.is;
         shallow = omega (arith, level);
-        kind = ap (λ (ψ : Layer). is_begin ψ.kind) same';
         level = sym (ap (λ (ψ : Layer). ψ.level) same');
-        saved = let saved = ap (λ (ψ : Layer). ψ.saved) same' in omega (arith, saved);
-        ends = taking_ends once program i.head i.body xs v m.loadable received (omega (arith, inside));
+        held = called_held m v i.head i.body i.statements i.fits i.begins (run_given o) refl refl;
+        home = λ may. record {
+          kind = ap (λ (ψ : Layer). is_begin ψ.kind) same';
+          saved = let saved = ap (λ (ψ : Layer). ψ.saved) same' in omega (arith, saved);
+          ends = taking_ends once program i.head i.body xs v m.loadable received (omega (arith, inside));
+          owner = refl;
+        };
         placed = taking_body_placed once program i.head i.body xs v m.loadable received (omega (arith, inside));
         statements = i.statements;
         fits = i.fits;

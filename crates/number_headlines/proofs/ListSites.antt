@@ -16,7 +16,7 @@ use Rattle.pli_serving.specs.Templates.{shape_at}
 use Rattle.pli_types.specs.Templates.{Template}
 use Rattle.activation_relation.specs.Frames.{lower_end, upper_top}
 use Rattle.activation_relation.specs.Layers.{Layer, Point}
-use Rattle.program_places.specs.Programs.{IsReceiving, environment_for}
+use Rattle.program_places.specs.Programs.{IsReceiving, entry_for, environment_for, procedure_for}
 use Rattle.program_places.proofs.Found.{known}
 use Rattle.program_runs.specs.Statements.{Block}
 use Rattle.program_runs.specs.Starts.{image_parts}
@@ -39,7 +39,7 @@ use Rattle.number_headlines.proofs.Inner.{Inner}
 use Rattle.number_headlines.proofs.ListPlaces.{IsOwnList, indices_are, own_list, parameter_found, parameters_at}
 use Rattle.number_headlines.proofs.ListPlaces.{parameters_many, taking_at, taking_end, taking_index}
 use Rattle.number_headlines.proofs.Mains.{Main, result_of}
-use Rattle.number_headlines.proofs.Running.{IsRunning, Running, around_for, block_of_run, function_by}
+use Rattle.number_headlines.proofs.Running.{IsRunning, Running, around_for, block_of_run, called_form, function_by}
 use Rattle.number_headlines.proofs.Tables.{serials_enough}
 use Rattle.program_runs.specs.Variables.{Declared}
 use Rattle.variable_runs.specs.Lists.{newest_all}
@@ -107,6 +107,7 @@ listed_at {program} {valued = valued} i more k t p numbers ys =
       made = newest_all image_parts (words_for i) (bound_point (function_by valued) y);
       layers = λ ls. ls;
       texts = λ es. es;
+      form = called_form (entry_for program i.head.number) (procedure_for program i.head i.body);
     }
 
 -- ---- what it asks for

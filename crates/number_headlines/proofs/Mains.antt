@@ -37,7 +37,7 @@ use Rattle.block_headlines.proofs.Constants.{main_of_program}
 use Rattle.element_runs.specs.Arrays.{IsArray}
 use Rattle.scalar_runs.specs.Scalars.{IsScalar}
 use Rattle.number_runs.specs.Numbers.{has_none}
-use Rattle.number_runs.specs.Statements.{are_statements, statements_need, statements_set}
+use Rattle.number_runs.specs.Statements.{are_statements, begins_need, statements_need, statements_set}
 use Rattle.variable_runs.specs.Known.{IsKnown}
 use Rattle.area_runs.specs.Allocations.{HasArea}
 use Rattle.area_runs.specs.Based.{pointer_declared}
@@ -137,6 +137,7 @@ pub record Main (program : Y.Program) : Type 0 where
   pub called : List ℕ
   pub statements : are_statements (scope_of program called head body) false (labels_in body ++ []) body ≡ true
   pub fits : statements_need body ≤ held_registers
+  pub begins : begins_need body ≤ held_registers
   pub waiting : statements_set body ≤ most_waiting
   pub inners : are_inner program called called ≡ true
 
@@ -162,8 +163,11 @@ main_is program (p ∷ ps) e known load fits h =
     let d = and_parts plain (is_body s false body && all) b.1 in
     let c = and_parts (is_body s false body) all d.1 in
     let f = and_parts (are_statements s false (labels_in body ++ []) body)
-    (nat_le (statements_need body) held_registers && nat_le (statements_set body) most_waiting) c.0 in
-    let g = and_parts (nat_le (statements_need body) held_registers) (nat_le (statements_set body) most_waiting) f.1 in
+    (nat_le (statements_need body) held_registers
+    && (nat_le (begins_need body) held_registers && nat_le (statements_set body) most_waiting)) c.0 in
+    let g = and_parts (nat_le (statements_need body) held_registers)
+    (nat_le (begins_need body) held_registers && nat_le (statements_set body) most_waiting) f.1 in
+    let r = and_parts (nat_le (begins_need body) held_registers) (nat_le (statements_set body) most_waiting) g.1 in
     record {
       head = head;
       body = body;
@@ -176,7 +180,8 @@ main_is program (p ∷ ps) e known load fits h =
       called = called;
       statements = f.0;
       fits = leb-true (statements_need body) held_registers g.0;
-      waiting = leb-true (statements_set body) most_waiting g.1;
+      begins = leb-true (begins_need body) held_registers r.0;
+      waiting = leb-true (statements_set body) most_waiting r.1;
       inners = c.1;
     }
 

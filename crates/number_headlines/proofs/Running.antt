@@ -1,6 +1,6 @@
 -- A block of a program of the class where it runs: what is known at its first statement.
 use Rattle.std.proofs.Common.{◌≡◌, ℕ, suc, ◌+◌, ◌*◌, ◌%◌, ◌^◌, ◌<◌, ◌≤◌, List, [], ◌∷◌, ◌++◌, length, Option, None}
-use Rattle.std.proofs.Common.{Some, Bool, true, false, refl, sym, ◌∙◌, subst, arith}
+use Rattle.std.proofs.Common.{Some, Bool, true, false, refl, sym, ap, ◌∙◌, subst, arith}
 use Rattle.pli_language.specs.declared.condition.Condition.{Condition}
 use Rattle.pli_typing.specs.Signatures.{Fixed}
 use Rattle.pli_typing.specs.TypedTree as Y
@@ -9,7 +9,7 @@ use Rattle.pli_meaning.specs.Executing.{begun, entered, labels_in}
 use Rattle.pli_meaning.specs.Raising.{Around, Entry, at_line}
 use Rattle.pli_meaning.specs.StorageState.{automatic_in_use, force, most_activations, most_automatic}
 use Rattle.pli_serving.specs.ServiceState as S
-use Rattle.pli_coding.specs.Environments.{Environment, block_around, none_taken}
+use Rattle.pli_coding.specs.Environments.{BlockOwner, Environment, Owner, block_around, none_taken, owned_by}
 use Rattle.pli_coding.specs.Frames.{result}
 use Rattle.pli_coding.specs.Images.{linked_code}
 use Rattle.pli_coding.specs.Locating.{table_number}
@@ -27,10 +27,10 @@ use Rattle.block_runs.specs.Bodies.{Function}
 use Rattle.block_runs.specs.Machines.{acted}
 use Rattle.program_places.specs.Laws.{IsEnd}
 use Rattle.program_places.specs.Placed.{Placed}
-use Rattle.program_places.specs.Programs.{code_for, entry_for, environment_for, links_for, procedure_for}
+use Rattle.program_places.specs.Programs.{code_for, environment_for, links_for, procedure_for}
 use Rattle.program_runs.specs.Calls.{Callee, begun_at, left_over}
 use Rattle.program_runs.specs.Procedures.{Procedure, block_of, layer_for}
-use Rattle.program_runs.specs.Statements.{Block, EachDoes, IsAmong, IsBegun, with_texts}
+use Rattle.program_runs.specs.Statements.{Block, EachDoes, IsAmong, IsBegun, Outer, with_texts}
 use Rattle.program_runs.proofs.Waiting.{begun_waits}
 use Rattle.expression_runs.specs.Variables.{IsNumber, Spot}
 use Rattle.text_runs.proofs.Waiting.{number_waits}
@@ -48,14 +48,17 @@ use Rattle.area_runs.specs.Based.{pointer_declared}
 use Rattle.number_runs.specs.Knowledge.{KnowsGivenCalls}
 use Rattle.number_runs.specs.Numbers.{is_area_known, is_pointer_known}
 use Rattle.number_runs.specs.Numbers.{bounds_known, is_array_known, is_known, is_narrow_known, is_received, type_known}
+use Rattle.number_runs.proofs.BeginsSaved.{begins_held}
+use Rattle.number_runs.proofs.BlocksTaken.{registers_held}
 use Rattle.number_runs.proofs.Narrow.{narrow_told}
-use Rattle.number_runs.specs.Statements.{are_statements, statements_need, statements_set}
+use Rattle.number_runs.specs.Statements.{are_statements, begins_need, statements_need, statements_set}
 use Rattle.number_runs.specs.Variables.{AreTabled}
 use Rattle.parameter_runs.proofs.Passing.{around_told}
 use Rattle.number_runs.proofs.Waiting.{array_waits, narrow_waits, parameter_waits}
 use Rattle.number_headlines.specs.Programs.{most_waiting, scope_of}
 use Rattle.list_calls.specs.Passed.{IsTelling}
 use Rattle.number_headlines.proofs.Mains.{Main, most_for, surroundings_for}
+use Rattle.number_headlines.proofs.Tables.{block_known}
 use Rattle.number_headlines.proofs.Telling.{telling_told, telling_waits}
 
 -- ---- the block of a procedure or of a function
@@ -79,6 +82,26 @@ with_entries texts k = record k { first = with_texts (texts k.first.control.entr
 
 -- ---- as it is called
 
+-- how it came to run: the index of its entry, its first point behind its act of entry, of which a begin block has none,
+-- where a RETURN in it goes, the registers that its code may write, and the blocks further out to which it may go on
+pub record Form : Type 0 where
+  pub entry : ℕ
+  pub behind : Point → Point
+  pub owner : Owner
+  pub registers : ℕ
+  pub outers : List Outer
+
+-- a procedure's or a function's own block
+abbrev pub called_form : (entry : ℕ) → Procedure → Form
+called_form entry x =
+    record {
+      entry = entry;
+      behind = acted x.head.line;
+      owner = BlockOwner (record { number = x.head.number; level = x.head.level });
+      registers = x.saved;
+      outers = [];
+    }
+
 -- with what it is entered, the layer with which it begins, the indices of its call, of its first statement and of its
 -- end, the point of its call, with what waits in registers, and the point where its variables have been made; and what
 -- is known of the layers at its first statement: as they are, or the newest with what waits in words of its frame
@@ -95,6 +118,10 @@ pub record Running : Type 0 where
   pub made : Point
   pub layers : List Layer → List Layer
   pub texts : List S.Entry → List S.Entry
+  pub form : Form
+
+abbrev pub environment_of_run : Y.Program → Running → Environment
+environment_of_run program a = owned_by a.form.owner (environment_for program a.head)
 
 -- blocks may be entered so many deep inside it
 abbrev pub around_for : Y.Program → (more : ℕ) → Around
@@ -113,15 +140,15 @@ block_of_run program input acts valued more a =
         numbers = a.numbers;
         beginning = record { head = a.head; entry = a.entry; layer = a.layer; texts = 0 };
         call = a.call;
-        entry = entry_for program a.head.number;
+        entry = a.form.entry;
         end = a.end;
         function = function_by valued;
       };
-      first = acted a.head.line a.made;
-      environment = environment_for program a.head;
+      first = a.form.behind a.made;
+      environment = environment_of_run program a;
       around = at_line (around_for program more) a.head.line;
-      registers = (procedure_for program a.head a.body).saved;
-      outers = [];
+      registers = a.form.registers;
+      outers = a.form.outers;
     }))
 
 -- one without a parameter
@@ -140,6 +167,7 @@ run_of valued w c index p numbers =
       made = c.made (begun_at w c p numbers);
       layers = λ ls. ls;
       texts = λ es. es;
+      form = called_form c.calling.entry c.procedure;
     }
 
 -- ---- what is known there
@@ -171,18 +199,30 @@ pub record HasDepth (q : Point) (blocks : ℕ) : Type 0 where
   pub some : 1 ≤ blocks
   pub all : most_activations + 1 ≤ length q.state.activations + blocks
 
+-- its temporaries, and those of its begin blocks, fit the registers that its code may write
+pub record IsHeld (a : Running) : Type 0 where
+  pub own : statements_need a.body ≤ a.form.registers
+  pub begins : begins_need a.body ≤ a.form.registers
+  pub all : a.form.registers ≤ held_registers
+
+-- it is a procedure's or a function's own block
+pub record IsCalledForm (program : Y.Program) (a : Running) : Type 0 where
+  pub kind : is_begin a.layer.kind ≡ false
+  pub saved : a.form.registers ≤ a.layer.saved
+  pub ends : IsEnd (links_for program) a.head.number a.end
+  pub owner : a.form.owner ≡ BlockOwner (record { number = a.head.number; level = a.head.level })
+
 pub record IsRunning {program : Y.Program} (m : Main program) (input : List ℕ) (acts : ℕ) (valued : Bool) (more : ℕ)
     (a : Running) (blocks : ℕ) : Type 0
   where
     pub own : block_around (environment_for program a.head) a.head.level ≡ a.head.number
     pub shallow : a.head.level < 16
-    pub kind : is_begin a.layer.kind ≡ false
     pub level : a.head.level ≡ a.layer.level
-    pub saved : (procedure_for program a.head a.body).saved ≤ a.layer.saved
-    pub ends : IsEnd (links_for program) a.head.number a.end
+    pub held : IsHeld a
+    pub home : (scope_of program m.called a.head a.body).returns ≡ true → IsCalledForm program a
     pub placed :
         Placed (links_for program) (linked_code (code_for program)) a.index
-        (stmts_code (environment_for program a.head) none_taken a.body)
+        (stmts_code (environment_of_run program a) none_taken a.body)
     pub statements :
         are_statements (scope_of program m.called a.head a.body) valued (labels_in a.body ++ []) a.body ≡ true
     pub fits : statements_need a.body ≤ held_registers
@@ -288,6 +328,39 @@ pub table_later : {q r : Point} (program : Y.Program) → Remains q r → HasTab
 table_later program same h head =
     tabled_later (environment_for program head) (variables_of_block program head.number) same (h head)
 
+-- ---- what a procedure's block has
+
+pub called_held :
+    {program : Y.Program} (m : Main program) (valued : Bool) (head : Y.BlockHead) (body : Y.Stmts) →
+    are_statements (scope_of program m.called head body) valued (labels_in body ++ []) body ≡ true →
+    statements_need body ≤ held_registers → begins_need body ≤ held_registers → (a : Running) → a.body ≡ body →
+    a.form.registers ≡ (procedure_for program head body).saved → IsHeld a
+called_held {program} m valued head body statements fits begins a same saved =
+    let s = scope_of program m.called head body in
+    let e = environment_for program head in
+    let known' = (block_known program.variables head.number m.known).known in
+    let own = registers_held s valued e head.number body known' statements fits in
+    let inner = begins_held s valued e head.number body statements begins in
+    let needs = ap statements_need same in
+    let more = ap begins_need same in
+    record {
+      own = omega (arith, needs, own, saved);
+      begins = omega (arith, more, inner, saved);
+      all = omega (arith, saved);
+    }
+
+-- ---- with other layers or texts
+
+pub held_alike :
+    {a : Running} {layers : List Layer → List Layer} {texts : List S.Entry → List S.Entry} → IsHeld a →
+    IsHeld (record a { layers = layers; texts = texts })
+held_alike h = record { own = h.own; begins = h.begins; all = h.all }
+
+pub form_alike :
+    {program : Y.Program} {a : Running} {layers : List Layer → List Layer} {texts : List S.Entry → List S.Entry} →
+    IsCalledForm program a → IsCalledForm program (record a { layers = layers; texts = texts })
+form_alike h = record { kind = h.kind; saved = h.saved; ends = h.ends; owner = h.owner }
+
 -- ---- while limits of loops wait in words of its frame
 
 abbrev pub told_run : Running → (waits : ℕ → Option ℕ) → Layer → List Layer → Running
@@ -306,10 +379,9 @@ told_running {program} {m} {input} {acts} {valued} {more} {a} {blocks} h waits =
     record {
       own = h.own;
       shallow = h.shallow;
-      kind = h.kind;
       level = h.level;
-      saved = h.saved;
-      ends = h.ends;
+      held = held_alike h.held;
+      home = λ may. form_alike (h.home may);
       placed = h.placed;
       statements = h.statements;
       fits = h.fits;
@@ -361,10 +433,9 @@ waited_running {program} {m} {input} {acts} {valued} {more} {a} {blocks} h entri
     record {
       own = h.own;
       shallow = h.shallow;
-      kind = h.kind;
       level = h.level;
-      saved = h.saved;
-      ends = h.ends;
+      held = held_alike h.held;
+      home = λ may. form_alike (h.home may);
       placed = h.placed;
       statements = h.statements;
       fits = h.fits;

@@ -20,3 +20,4 @@ pub mod InitialRows
 pub mod EuclidRows
 pub mod LentRows
 pub mod HolderRows
+pub mod BeginRows

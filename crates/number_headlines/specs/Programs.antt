@@ -9,8 +9,8 @@ use Rattle.pli_coding.specs.Environments.{BlockPlace, Environment, block_around}
 use Rattle.pli_coding.specs.Registers.{held_registers}
 use Rattle.pli_coding.specs.SignatureTable.{with_signatures}
 use Rattle.program_places.specs.Programs.{environment_for}
-use Rattle.number_runs.specs.Numbers.{Scope, has_none, is_fixed, is_parameter, is_parameter_if}
-use Rattle.number_runs.specs.Statements.{are_statements, statements_need, statements_set}
+use Rattle.number_runs.specs.Numbers.{Names, Scope, has_none, is_fixed, is_parameter, is_parameter_if}
+use Rattle.number_runs.specs.Statements.{are_statements, begins_need, statements_need, statements_set}
 use Rattle.number_runs.specs.Areas.{held_bytes}
 use Rattle.number_runs.specs.Variables.{are_any, are_known, are_plain, bytes_of}
 use Rattle.pli_headline.specs.Headline.{parts}
@@ -103,11 +103,13 @@ are_own (n ∷ ns) ds =
 abbrev pub most_waiting : ℕ
 most_waiting = 128
 
--- the statements of a block, whose temporaries fit registers, and whose loops the words of its frame
+-- the statements of a block, whose temporaries, and those of its begin blocks, fit registers, and whose loops the words
+-- of its frame
 abbrev pub is_body : Scope → (valued : Bool) → Y.Stmts → Bool
 is_body s valued body =
     are_statements s valued (labels_in body ++ []) body
-    && (nat_le (statements_need body) held_registers && nat_le (statements_set body) most_waiting)
+    && (nat_le (statements_need body) held_registers
+    && (nat_le (begins_need body) held_registers && nat_le (statements_set body) most_waiting))
 
 abbrev pub body_of : Y.Block → Y.Stmts
 body_of (Y.BlockOf head body) = body
@@ -153,21 +155,64 @@ pointers_of head =
 abbrev pub least_located : ℕ
 least_located = 2
 
--- a block may name its own variables and parameters, and those of the blocks around it, and call these, with arguments
+-- ---- begin blocks
+
+abbrev pub is_begin_kind : Y.BlockKind → Bool
+is_begin_kind Y.BeginBlock = true
+is_begin_kind kind = false
+
+-- blocks stand in one another at most so deep
+abbrev pub most_deep : ℕ
+most_deep = 16
+
+-- one that stands in a block: the level and the number are as each well-formed tree has them
+abbrev pub is_within : Y.Program → (around : Y.BlockHead) → Y.BlockHead → Bool
+is_within program around head =
+    is_begin_kind head.kind
+    && ((head.level == suc around.level)
+    && (nat_lt head.level most_deep
+    && ((block_around (environment_for program head) head.level == head.number)
+    && stand_alike (environment_for program around) (environment_for program head) around.level)))
+
+-- and declares variables of the class
+abbrev pub is_begun : Y.Program → (around : Y.BlockHead) → Y.BlockHead → Y.Stmts → Bool
+is_begun program around head body =
+    is_within program around head
+    && ((has_none (parameters_of_block program head.number) && are_plain (variables_of_block program head.number))
+    && nat_le (statements_set body) most_waiting)
+
+-- ---- what a block may name and call
+
+-- its own variables and parameters, those of the blocks around it, and these procedures, with arguments
+abbrev pub names_of : Y.Program → List ℕ → Y.BlockHead → Y.Stmts → Names
+names_of program ns head body =
+    record {
+      blocks = places_to (environment_for program head) head.level;
+      receivers = places_to (environment_for program head) head.level;
+      is_function = is_callable program ns head 0 true;
+      is_procedure = is_callable program ns head 0 false;
+      is_given_function = λ count. is_callable program ns head count true;
+      is_given_procedure = λ count. is_callable program ns head count false;
+      locates = nat_le least_located (statements_set body);
+      pointers = pointers_of head;
+      returns = not (is_begin_kind head.kind);
+      is_begin = is_begun program head;
+    }
+
 abbrev pub scope_of : Y.Program → List ℕ → Y.BlockHead → Y.Stmts → Scope
 scope_of program ns head body =
     record {
       program = program;
       level = head.level;
-      blocks = places_to (environment_for program head) head.level;
-      receivers = places_to (environment_for program head) head.level;
-      is_function = is_callable program ns head 0 true;
-      is_procedure = is_callable program ns head 0 false;
+      blocks = (names_of program ns head body).blocks;
+      receivers = (names_of program ns head body).receivers;
+      is_function = (names_of program ns head body).is_function;
+      is_procedure = (names_of program ns head body).is_procedure;
       gives = true;
-      is_given_function = λ count. is_callable program ns head count true;
-      is_given_procedure = λ count. is_callable program ns head count false;
-      locates = nat_le least_located (statements_set body);
-      pointers = pointers_of head;
+      is_given_function = (names_of program ns head body).is_given_function;
+      is_given_procedure = (names_of program ns head body).is_given_procedure;
+      locates = (names_of program ns head body).locates;
+      pointers = (names_of program ns head body).pointers;
       counts = true;
       puts = true;
       overflows = true;
@@ -179,6 +224,9 @@ scope_of program ns head body =
       is_outer = λ level label. false;
       signals = λ c. true;
       codes = false;
+      returns = (names_of program ns head body).returns;
+      is_begin = (names_of program ns head body).is_begin;
+      inner = names_of program ns;
     }
 
 -- with parameters or without

@@ -3,6 +3,7 @@
 ghost use Rattle.number_headlines.specs.AlarmRows.{AlarmKept};
 ghost use Rattle.number_headlines.specs.AreaRows.{GatherKept};
 ghost use Rattle.number_headlines.specs.ArrayRows.{SieveKept};
+ghost use Rattle.number_headlines.specs.BeginRows.{BeginsKept};
 ghost use Rattle.number_headlines.specs.CallRows.{CallingKept};
 ghost use Rattle.number_headlines.specs.ChainRows.{ChainKept};
 ghost use Rattle.number_headlines.specs.CountRows.{CountingKept};
@@ -174,6 +175,14 @@ pub fn loops_kept()
 /// holder with both.
 pub fn holder_kept()
     ensures { HolderKept }
+{
+    number_headlines_kept();
+}
+
+/// A worked row with begin blocks: in the turns of a loop, in one another, with a procedure in one, and in a procedure
+/// that calls itself from there.
+pub fn begins_kept()
+    ensures { BeginsKept }
 {
     number_headlines_kept();
 }

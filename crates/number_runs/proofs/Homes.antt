@@ -417,16 +417,16 @@ given_does h labels (Y.Referring v (Y.LocatedBy p) part (Y.NumberThen first rest
 
 pub returned_does :
     (h : Home) (labels : List Label) (type : Y.LeafType) (source : Y.Stored) (line index : ℕ) →
-    Includes h.own labels → is_line line ≡ true → h.scope.own ≡ true → h.valued ≡ true →
+    Includes h.own labels → is_line line ≡ true → h.scope.own ≡ true → h.scope.returns ≡ true → h.valued ≡ true →
     is_fixed type ≡ true → is_stored h.scope source ≡ true → stored_needs source ≤ h.block.registers →
     HasFrame h.ready h.words (stored_sets source) → Coded h labels (Y.ReturnValue type source line) index
-returned_does h labels type source line index includes is own valued one two fits sets =
+returned_does h labels type source line index includes is own may valued one two fits sets =
     let x = storing h.scope source two in
     let need = number_needs x.number in
     let needs = x.needs in
     let few = x.sets in
     let stmt = return_of x.number line in
-    let v = (h.ready.home own).values valued in
+    let v = (h.ready.home own).values may valued in
     subst (λ t. Coded h labels (Y.ReturnValue t source line) index) (sym (fixed_is type one))
     (subst (λ q. Coded h labels (Y.ReturnValue (Y.FixedLeaf 31) q line) index) (sym x.is)
     (λ l. W.return_with h.words h.block labels x.number line index h.left' need h.most

@@ -15,6 +15,7 @@ pub mod Unset
 pub mod Taking
 pub mod Takes
 pub mod BlocksTaken
+pub mod BeginsSaved
 pub mod Waiting
 pub mod Expressions
 pub mod Unraised

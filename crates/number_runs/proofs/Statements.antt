@@ -46,10 +46,10 @@ use Rattle.number_runs.specs.Knowledge.{Includes, MayBeSet, Standing}
 use Rattle.number_runs.specs.Knowledge.{StandingWith}
 use Rattle.number_runs.specs.Numbers.{Scope, are_arguments, gives_lists, is_fixed}
 use Rattle.number_runs.specs.Numbers.{is_reference, is_test, number_needs, number_sets, reference_needs, reference_sets}
-use Rattle.number_runs.specs.Numbers.{test_needs, test_sets, without_located}
+use Rattle.number_runs.specs.Numbers.{inside, test_needs, test_sets, without_located}
 use Rattle.number_runs.specs.Puts.{is_put}
 use Rattle.number_runs.specs.Statements.{are_statements, behind_stored, is_line, is_statement, is_stored}
-use Rattle.number_runs.specs.Statements.{statement_needs}
+use Rattle.number_runs.specs.Statements.{begin_needs, begins_need, statement_needs}
 use Rattle.number_runs.specs.Statements.{is_narrowed, statement_sets, statements_need, statements_set, stored_needs}
 use Rattle.number_runs.specs.Statements.{behind_sets, stored_sets, is_allocation, is_area_variable, is_freeing}
 use Rattle.number_runs.proofs.Counters.{IsCounting, counting_is, counting_of, statement_is}
@@ -433,17 +433,17 @@ mutual
   pub statement_does :
       (h : Home) (labels : List Label) (stmt : Y.Stmt) (index : ℕ) → PlacedIn h labels →
       is_statement h.scope h.valued labels stmt ≡ true → statement_needs stmt ≤ h.block.registers →
-      HasFrame h.ready h.words (statement_sets stmt) →
+      begin_needs stmt ≤ h.block.registers → HasFrame h.ready h.words (statement_sets stmt) →
       StandingWith h.words h.block stmt index → DoesWith h.words h.block labels stmt index h.left'
-  statement_does h labels (Y.Null line) index placed is fits sets at =
+  statement_does h labels (Y.Null line) index placed is fits held sets at =
       null_does h.block line index h.left' (act_of h line is) at.linked labels
-  statement_does h labels (Y.Assign target source line) index placed is fits sets at =
+  statement_does h labels (Y.Assign target source line) index placed is fits held sets at =
       let one = is_reference h.scope target && is_stored h.scope source in
       let other = is_narrowed h.scope target source in
       let a = and_parts (is_line line) (one || other) is in
       assignment_does h labels target source line index placed.includes a.0 (or_cases one other a.1) fits sets
       at.linked
-  statement_does h labels (Y.If condition unit line) index placed is fits sets at =
+  statement_does h labels (Y.If condition unit line) index placed is fits held sets at =
       let inner = is_statement h.scope h.valued labels unit in
       let a = and_parts (is_line line) (is_test h.scope condition && inner) is in
       let b = and_parts (is_test h.scope condition) inner a.1 in
@@ -454,10 +454,10 @@ mutual
       (lists_at h labels line placed.includes (test_sets condition) (max (test_sets condition) (statement_sets unit))
       (omega arith) sets))
       (statement_does h labels unit (behind_test_with h.words h.block condition (behind_act line index)) placed b.1
-      (omega (arith, fits))
+      (omega (arith, fits)) held
       (fewer h (statement_sets unit) (max (test_sets condition) (statement_sets unit)) (omega arith) sets)
       (unit_stands h condition unit line index at))
-  statement_does h labels (Y.IfElse condition unit otherwise line) index placed is fits sets at =
+  statement_does h labels (Y.IfElse condition unit otherwise line) index placed is fits held sets at =
       let first = is_statement h.scope h.valued labels unit in
       let second = is_statement h.scope h.valued labels otherwise in
       let a = and_parts (is_line line) (is_test h.scope condition && (first && second)) is in
@@ -470,16 +470,16 @@ mutual
       (knows h labels line placed.includes) b.0
       (lists_at h labels line placed.includes (test_sets condition)
       (max (test_sets condition) (max (statement_sets unit) (statement_sets otherwise))) (omega arith) sets))
-      (statement_does h labels unit chosen placed c.0 (omega (arith, fits))
+      (statement_does h labels unit chosen placed c.0 (omega (arith, fits)) (omega (arith, held))
       (fewer h (statement_sets unit) (max (test_sets condition) (max (statement_sets unit) (statement_sets otherwise)))
       (omega arith) sets)
       (first_stands h condition unit otherwise line index at))
       (statement_does h labels otherwise (behind_choice_with h.words h.block unit chosen) placed c.1
-      (omega (arith, fits))
+      (omega (arith, fits)) (omega (arith, held))
       (fewer h (statement_sets otherwise)
       (max (test_sets condition) (max (statement_sets unit) (statement_sets otherwise))) (omega arith) sets)
       (second_stands h condition unit otherwise line index at))
-  statement_does h labels (Y.Do body line) index placed is fits sets at =
+  statement_does h labels (Y.Do body line) index placed is fits held sets at =
       let inner = are_statements h.scope h.valued (labels_in body ++ labels) body in
       let a = and_parts (is_line line) inner is in
       let in' = group_stands h body line index at in
@@ -493,8 +493,8 @@ mutual
         turns = omega (arith, turns);
       })
       (statements_do h (labels_in body ++ labels) body (list_index line index)
-      (placed_in h.words h.block h.own body (list_index line index) labels in' placed) a.1 fits sets in')
-  statement_does h labels (Y.DoWhile condition body line) index placed is fits sets at =
+      (placed_in h.words h.block h.own body (list_index line index) labels in' placed) a.1 fits held sets in')
+  statement_does h labels (Y.DoWhile condition body line) index placed is fits held sets at =
       let inner = are_statements h.scope h.valued (labels_in body ++ labels) body in
       let a = and_parts (is_line line) (is_test h.scope condition && inner) is in
       let b = and_parts (is_test h.scope condition) inner a.1 in
@@ -508,52 +508,54 @@ mutual
       (omega arith) sets))
       (record { begun = h.ready.begun; turns = h.ready.turns; marked = marked_in h body i in' })
       (statements_do h (labels_in body ++ labels) body i
-      (placed_in h.words h.block h.own body i labels in' placed) b.1 (omega (arith, fits))
+      (placed_in h.words h.block h.own body i labels in' placed) b.1 (omega (arith, fits)) held
       (fewer h (statements_set body) (max (test_sets condition) (statements_set body)) (omega arith) sets) in')
-  statement_does h labels (Y.CallProcedure (Y.Calling number level Y.NoArgument) line) index placed is fits sets at =
+  statement_does h labels (Y.CallProcedure (Y.Calling number level Y.NoArgument) line) index placed is fits held sets at =
       let a = and_parts (is_line line) (h.scope.is_procedure level number) is in
       calls_does h labels number level line index placed.includes a.0 a.1 at.linked
   statement_does h labels (Y.CallProcedure (Y.Calling number level (Y.ArgumentThen first rest)) line) index placed is
-      fits sets at =
+      fits held sets at =
       let taken = h.scope.is_given_procedure (suc (argument_count rest)) level number in
       let given = are_arguments (without_located h.scope) (Y.ArgumentThen first rest) in
       let a = and_parts (is_line line) (gives_lists h.scope && (taken && given)) is in
       let b = and_parts (gives_lists h.scope) (taken && given) a.1 in
       let c = and_parts taken given b.1 in
       passed_does h labels number level first rest line index placed.includes a.0 b.0 c.0 c.1 fits sets at.linked
-  statement_does h labels (Y.Return line) index placed is fits sets at =
-      let a = and_parts (is_line line) (h.scope.own && not h.valued) is in
-      let b = and_parts h.scope.own (not h.valued) a.1 in
+  statement_does h labels (Y.Return line) index placed is fits held sets at =
+      let a = and_parts (is_line line) (h.scope.own && (h.scope.returns && not h.valued)) is in
+      let b = and_parts h.scope.own (h.scope.returns && not h.valued) a.1 in
+      let c = and_parts h.scope.returns (not h.valued) b.1 in
       return_does h.block line index h.left' (act_of h line a.0)
-      ((h.ready.home b.0).returns (not_true h.valued b.1)) at.linked labels
-  statement_does h labels (Y.ReturnValue type source line) index placed is fits sets at =
+      ((h.ready.home b.0).returns c.0 (not_true h.valued c.1)) at.linked labels
+  statement_does h labels (Y.ReturnValue type source line) index placed is fits held sets at =
       let rest = is_fixed type && is_stored h.scope source in
-      let a = and_parts (is_line line) (h.scope.own && (h.valued && rest)) is in
-      let d = and_parts h.scope.own (h.valued && rest) a.1 in
-      let b = and_parts h.valued rest d.1 in
+      let a = and_parts (is_line line) (h.scope.own && (h.scope.returns && (h.valued && rest))) is in
+      let d = and_parts h.scope.own (h.scope.returns && (h.valued && rest)) a.1 in
+      let g = and_parts h.scope.returns (h.valued && rest) d.1 in
+      let b = and_parts h.valued rest g.1 in
       let c = and_parts (is_fixed type) (is_stored h.scope source) b.1 in
-      returned_does h labels type source line index placed.includes a.0 d.0 b.0 c.0 c.1 fits sets at.linked
-  statement_does h labels (Y.Goto level label line) index placed is fits sets at =
+      returned_does h labels type source line index placed.includes a.0 d.0 g.0 b.0 c.0 c.1 fits sets at.linked
+  statement_does h labels (Y.Goto level label line) index placed is fits held sets at =
       let near = h.scope.own && ((level == h.scope.level) && is_among label labels) in
       let a = and_parts (is_line line) (near || h.scope.is_outer level label) is in
       gone_does h labels level label line index placed a.0 a.1 at.linked
-  statement_does h labels (Y.Stop line) index placed is fits sets at =
+  statement_does h labels (Y.Stop line) index placed is fits held sets at =
       stop_does h.block line index h.left' (act_of h line is) at.linked labels
-  statement_does h labels (Y.AssignElements target source line) index placed is fits sets at = absurd (cc is)
-  statement_does h labels (Y.AssignAggregate target source line) index placed is fits sets at = absurd (cc is)
-  statement_does h labels (Y.AssignArea target source line) index placed is fits sets at =
+  statement_does h labels (Y.AssignElements target source line) index placed is fits held sets at = absurd (cc is)
+  statement_does h labels (Y.AssignAggregate target source line) index placed is fits held sets at = absurd (cc is)
+  statement_does h labels (Y.AssignArea target source line) index placed is fits held sets at =
       let one = is_area_variable h.scope target in
       let two = is_area_variable h.scope source in
       let a = and_parts (is_line line) (h.scope.locates && (one && two)) is in
       let b = and_parts h.scope.locates (one && two) a.1 in
       let c = and_parts one two b.1 in
       copied_does h labels target source line index placed.includes a.0 b.0 c.0 c.1 at.linked
-  statement_does h labels (Y.EmptyArea target line) index placed is fits sets at =
+  statement_does h labels (Y.EmptyArea target line) index placed is fits held sets at =
       let one = is_area_variable h.scope target in
       let a = and_parts (is_line line) (h.scope.locates && one) is in
       let b = and_parts h.scope.locates one a.1 in
       emptied_does h labels target line index placed.includes a.0 b.0 b.1 at.linked
-  statement_does h labels (Y.DoOnce variable start condition body line) index placed is fits sets at =
+  statement_does h labels (Y.DoOnce variable start condition body line) index placed is fits held sets at =
       let one = is_reference h.scope variable && is_stored h.scope start in
       let other = is_narrowed h.scope variable start in
       let inner = are_statements h.scope h.valued (labels_in body ++ labels) body in
@@ -569,9 +571,9 @@ mutual
       (assignment_does h labels variable start line index placed.includes a.0 (or_cases one other b.0)
       (omega (arith, fits)) (fewer h words all (omega arith) sets))
       (λ i placed' at'.
-      statements_do h (labels_in body ++ labels) body i placed' c.1 (omega (arith, fits))
+      statements_do h (labels_in body ++ labels) body i placed' c.1 (omega (arith, fits)) held
       (fewer h (statements_set body) all (omega arith) sets) at') at
-  statement_does h labels (Y.DoCount counter start limit step condition body line) index placed is fits sets at =
+  statement_does h labels (Y.DoCount counter start limit step condition body line) index placed is fits held sets at =
       let g = unlocated h in
       let inner = are_statements g.scope h.valued (labels_in body ++ labels) body in
       let counts' = is_count g.scope counter start limit step condition in
@@ -584,23 +586,28 @@ mutual
       let three = fewer g 3 need (omega arith) all in
       counted_does g labels x body line index placed a.0 b.0 refl (omega (arith, fits)) all three
       (λ y i placed' sets' at'.
-      statements_do (in_turn g b.0 refl three y) (labels_in body ++ labels) body i placed' c.1 (omega (arith, fits))
+      statements_do (in_turn g b.0 refl three y) (labels_in body ++ labels) body i placed' c.1 (omega (arith, fits)) held
       sets' at') at
-  statement_does h labels (Y.Begin block) index placed is fits sets at = absurd (cc is)
-  statement_does h labels (Y.OnSystem condition line) index placed is fits sets at = absurd (cc is)
-  statement_does h labels (Y.OnUnit condition unit line) index placed is fits sets at = absurd (cc is)
-  statement_does h labels (Y.Signal condition line) index placed is fits sets at =
+  statement_does h labels (Y.Begin (Y.BlockOf head body)) index placed is fits held sets at =
+      let inner = are_statements (inside h.scope head body) false (labels_in body ++ []) body in
+      let a = and_parts (is_line head.line) (h.scope.is_begin head body && inner) is in
+      let b = and_parts (h.scope.is_begin head body) inner a.1 in
+      h.ready.begins labels head body index placed.includes b.0 b.1 (ltb-true head.line (2 ^ 31) a.0)
+      (omega (arith, held)) (omega (arith, held)) at
+  statement_does h labels (Y.OnSystem condition line) index placed is fits held sets at = absurd (cc is)
+  statement_does h labels (Y.OnUnit condition unit line) index placed is fits held sets at = absurd (cc is)
+  statement_does h labels (Y.Signal condition line) index placed is fits held sets at =
       let a = and_parts (is_line line) (h.scope.signals condition) is in
       h.ready.signals labels condition line index placed.includes a.1 (ltb-true line (2 ^ 31) a.0) at.linked
-  statement_does h labels (Y.Revert condition line) index placed is fits sets at = absurd (cc is)
-  statement_does h labels (Y.Allocate all line) index placed is fits sets at =
+  statement_does h labels (Y.Revert condition line) index placed is fits held sets at = absurd (cc is)
+  statement_does h labels (Y.Allocate all line) index placed is fits held sets at =
       let a = and_parts (is_line line) (is_allocation h.scope all) is in
       allocated_does h labels all line index placed.includes a.0 a.1 at.linked
-  statement_does h labels (Y.Free all line) index placed is fits sets at =
+  statement_does h labels (Y.Free all line) index placed is fits held sets at =
       let a = and_parts (is_line line) (is_freeing h.scope all) is in
       freed_does h labels all line index placed.includes a.0 a.1 at.linked
-  statement_does h labels (Y.Get skip pairs line) index placed is fits sets at = absurd (cc is)
-  statement_does h labels (Y.Put skip pairs line) index placed is fits sets at =
+  statement_does h labels (Y.Get skip pairs line) index placed is fits held sets at = absurd (cc is)
+  statement_does h labels (Y.Put skip pairs line) index placed is fits held sets at =
       let a = and_parts (is_line line) (is_put h.scope skip pairs) is in
       put_statement_does h.words h.scope h.block labels skip pairs line index h.left' h.most a.1
       (record {
@@ -616,10 +623,10 @@ mutual
   pub statements_do :
       (h : Home) (labels : List Label) (body : Y.Stmts) (index : ℕ) → PlacedIn h labels →
       are_statements h.scope h.valued labels body ≡ true → statements_need body ≤ h.block.registers →
-      HasFrame h.ready h.words (statements_set body) → AreStandingWith h.words h.block body index →
+      begins_need body ≤ h.block.registers → HasFrame h.ready h.words (statements_set body) → AreStandingWith h.words h.block body index →
       EachDoesWith h.words h.block labels body index h.left'
-  statements_do h labels (Y.EndOfList own) index placed is fits sets at = tt
-  statements_do h labels (Y.StmtThen own first rest) index placed is fits sets at =
+  statements_do h labels (Y.EndOfList own) index placed is fits held sets at = tt
+  statements_do h labels (Y.StmtThen own first rest) index placed is fits held sets at =
       let e = h.block.environment in
       let one = stmt_code e (set_aside h.words) first in
       let more = stmts_code e (set_aside h.words) rest in
@@ -627,10 +634,11 @@ mutual
       let first' = is_statement h.scope h.valued labels first in
       let a = and_parts first' (are_statements h.scope h.valued labels rest) is in (
         statement_does h labels first (index + size_of (marked e.block own)) placed a.0 (omega (arith, fits))
+            (omega (arith, held))
             (fewer h (statement_sets first) (max (statement_sets first) (statements_set rest)) (omega arith) sets)
             (placed_front one more at'),
         statements_do h labels rest (index + size_of (marked e.block own) + size_of one) placed a.1
-            (omega (arith, fits))
+            (omega (arith, fits)) (omega (arith, held))
             (fewer h (statements_set rest) (max (statement_sets first) (statements_set rest)) (omega arith) sets)
             (placed_back one more at'),
       )
@@ -659,22 +667,23 @@ home_of s valued k own most left' ready low =
 pub form_does :
     (s : Scope) (valued : Bool) (k : Block) (own labels : List Label) (stmt : Y.Stmt) (index most left' : ℕ)
     (r : IsReady s valued k own most left') → AreAround k own labels → is_statement s valued labels stmt ≡ true →
-    statement_needs stmt ≤ k.registers → HasFrame r 0 (statement_sets stmt) → Standing k stmt index →
-    Does k labels stmt index left'
-form_does s valued k own labels stmt index most left' ready placed is fits sets at =
-    statement_does (home_of s valued k own most left' ready (λ c. (sets c).0)) labels stmt index placed is fits sets at
+    statement_needs stmt ≤ k.registers → begin_needs stmt ≤ k.registers → HasFrame r 0 (statement_sets stmt) →
+    Standing k stmt index → Does k labels stmt index left'
+form_does s valued k own labels stmt index most left' ready placed is fits held sets at =
+    statement_does (home_of s valued k own most left' ready (λ c. (sets c).0)) labels stmt index placed is fits held
+    sets at
 
 pub body_does :
     (s : Scope) (valued : Bool) (k : Block) (body : Y.Stmts) (index most left' : ℕ)
     (r : IsReady s valued k (labels_in body ++ []) most left') →
     are_statements s valued (labels_in body ++ []) body ≡ true → statements_need body ≤ k.registers →
-    HasFrame r 0 (statements_set body) → AreStanding k body index →
+    begins_need body ≤ k.registers → HasFrame r 0 (statements_set body) → AreStanding k body index →
     EachDoes k (labels_in body ++ []) body index left'
-body_does s valued k body index most left' ready is fits sets at =
+body_does s valued k body index most left' ready is fits held sets at =
     let own = labels_in body ++ [] in
     statements_do (home_of s valued k own most left' ready (λ c. (sets c).0)) own body index
     (record { at = placed_with k body index [] at (λ label among. absurd (cc among)); includes = λ label e. e }) is
-    fits sets at
+    fits held sets at
 
 pub body_marked :
     (k : Block) (body : Y.Stmts) (index : ℕ) → AreStanding k body index →

@@ -631,9 +631,10 @@ mutual
   statement_taken words s valued labels (Y.Return line) h fits = sets_none (set_aside words)
   statement_taken words s valued labels (Y.ReturnValue type source line) h fits =
       let rest = is_fixed type && is_stored s source in
-      let a = and_parts (is_line line) (s.own && (valued && rest)) h in
-      let c = and_parts s.own (valued && rest) a.1 in
-      let b = and_parts valued rest c.1 in
+      let a = and_parts (is_line line) (s.own && (s.returns && (valued && rest))) h in
+      let c = and_parts s.own (s.returns && (valued && rest)) a.1 in
+      let d = and_parts s.returns (valued && rest) c.1 in
+      let b = and_parts valued rest d.1 in
       stored_taken words s source (and_parts (is_fixed type) (is_stored s source) b.1).1 fits
   statement_taken words s valued labels (Y.Goto level label line) h fits = sets_none (set_aside words)
   statement_taken words s valued labels (Y.Stop line) h fits = sets_none (set_aside words)
@@ -667,7 +668,7 @@ mutual
       let c = and_parts counts' inner b.1 in
       count_taken words u (counting_is u counter start limit step condition c.0) body line (omega (arith, fits))
       (statements_taken (words + 2) u valued (labels_in body ++ labels) body c.1 (omega (arith, fits)))
-  statement_taken words s valued labels (Y.Begin block) h fits = absurd (cc h)
+  statement_taken words s valued labels (Y.Begin block) h fits = sets_none (set_aside words)
   statement_taken words s valued labels (Y.OnSystem condition line) h fits = absurd (cc h)
   statement_taken words s valued labels (Y.OnUnit condition unit line) h fits = absurd (cc h)
   statement_taken words s valued labels (Y.Signal condition line) h fits =

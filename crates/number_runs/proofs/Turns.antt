@@ -56,7 +56,7 @@ home_told φ φs waits b h =
       level = h.level;
       own = h.own;
       block = h.block;
-      returns = λ e. let o = h.returns e in record {
+      returns = λ may e. let o = h.returns may e in record {
         owner = o.owner;
         end = o.end;
         near = o.near;
@@ -66,7 +66,7 @@ home_told φ φs waits b h =
         kind = o.kind;
         registers = o.registers;
       };
-      values = λ e. let v = h.values e in record {
+      values = λ may e. let v = h.values may e in record {
         owner = v.owner;
         end = v.end;
         near = v.near;
@@ -125,6 +125,7 @@ ready_told {s} {k = k} r c none waits behind free =
       calls = l.calls waits;
       based = λ may. absurd (cc (sym none ∙ may));
       jumps = l.jumps waits;
+      begins = l.begins waits;
       texts = l.texts waits;
       signals = l.signals waits;
       puts = λ may. puts_bare none (l.puts waits may);
@@ -139,6 +140,7 @@ ready_told {s} {k = k} r c none waits behind free =
         calls = l.calls;
         given = λ may. given_told waits l.newest (l.given may);
         jumps = l.jumps;
+        begins = l.begins;
         texts = l.texts;
         signals = l.signals;
         puts = l.puts;
@@ -213,6 +215,7 @@ ready_unlocated r =
       calls = calls_unlocated r.calls;
       based = λ may. absurd (cc may);
       jumps = r.jumps;
+      begins = r.begins;
       signals = r.signals;
       texts = λ may. around_unlocated (r.texts may);
       puts = λ may. puts_unlocated (r.puts may);
@@ -227,6 +230,7 @@ ready_unlocated r =
         calls = λ waits. calls_unlocated (l.calls waits);
         given = λ may'. given_unlocated (l.given may');
         jumps = l.jumps;
+        begins = l.begins;
         signals = l.signals;
         texts = λ waits may'. around_unlocated (l.texts waits may');
         puts = λ waits may'. l.puts waits may';

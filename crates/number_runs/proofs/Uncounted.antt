@@ -199,9 +199,10 @@ mutual
   statement_uncounted s valued labels (Y.Return line) none h = refl
   statement_uncounted s valued labels (Y.ReturnValue type source line) none h =
       let rest = is_fixed type && is_stored s source in
-      let a = and_parts (is_line line) (s.own && (valued && rest)) h in
-      let c = and_parts s.own (valued && rest) a.1 in
-      let b = and_parts valued rest c.1 in
+      let a = and_parts (is_line line) (s.own && (s.returns && (valued && rest))) h in
+      let c = and_parts s.own (s.returns && (valued && rest)) a.1 in
+      let d = and_parts s.returns (valued && rest) c.1 in
+      let b = and_parts valued rest d.1 in
       stored_unset s source none.1 (and_parts (is_fixed type) (is_stored s source) b.1).1
   statement_uncounted s valued labels (Y.Goto level label line) none h = refl
   statement_uncounted s valued labels (Y.Stop line) none h = refl

@@ -1,5 +1,5 @@
 -- What is known around the expressions and the statements of such a block.
-use Rattle.std.specs.Prelude.{ℕ, ◌+◌, ◌*◌, ◌^◌, ◌<◌, ◌≤◌, ◌≡◌, [], ◌∷◌, Bool, false, true, List, length, Option, None}
+use Rattle.std.specs.Prelude.{ℕ, ◌+◌, ◌*◌, ◌^◌, ◌<◌, ◌≤◌, ◌≡◌, [], ◌∷◌, ◌++◌, Bool, false, true, List, length, Option, None}
 use Rattle.std.specs.Prelude.{Some, ℤ}
 use Rattle.pli_language.specs.declared.condition.Condition.{Condition}
 use Rattle.pli_language.specs.declared.condition.Condition.TheVariants as C
@@ -8,6 +8,7 @@ use Rattle.pli_typing.specs.Signatures.{Fixed}
 use Rattle.pli_typing.specs.TypedTree as Y
 use Rattle.pli_coding.specs.Expressions.{argument_words}
 use Rattle.pli_meaning.specs.Control.{Label, is_among}
+use Rattle.pli_meaning.specs.Executing.{labels_in}
 use Rattle.pli_meaning.specs.StorageState.{force}
 use Rattle.pli_serving.specs.ServiceState.{EditPlace, Entry}
 use Rattle.pli_coding.specs.Assembly.{ConstantBytes, RaiseError, ReturnPlace}
@@ -57,8 +58,9 @@ use Rattle.scalar_runs.specs.Scalars.{IsScalar}
 use Rattle.number_runs.specs.Numbers.{Scope, bounds_known, is_array_known, is_known, is_narrow_known, is_received}
 use Rattle.number_runs.specs.Based.{is_pointer_type, is_word_type}
 use Rattle.number_runs.specs.Numbers.{gives_lists, type_known, is_area_known, is_based_known, is_pointer_known}
-use Rattle.number_runs.specs.Numbers.{is_member_known, without_located}
+use Rattle.number_runs.specs.Numbers.{is_member_known, without_located, inside}
 use Rattle.number_runs.specs.Puts.{without_calls, is_list}
+use Rattle.number_runs.specs.Statements.{are_statements, begins_need, statements_need}
 
 -- ---- around expressions
 
@@ -401,13 +403,24 @@ KnowsSignals s k own left' =
     Linked k.call.surroundings.links k.call.code index (stmt_code k.environment none_taken (Y.Signal c line)) →
     Does k labels (Y.Signal c line) index left'
 
--- it is a procedure's or a function's own block, in which a jump comes to a label and a RETURN to the end
+-- a begin block among the statements does what it means, if its statements are of the class, and they and those of the
+-- begin blocks in it need no more registers than the block has
+abbrev pub KnowsBegins : Scope → Block → (own : List Label) → (left' : ℕ) → Type 0
+KnowsBegins s k own left' =
+    (labels : List Label) (head : Y.BlockHead) (body : Y.Stmts) (index : ℕ) → Includes own labels →
+    s.is_begin head body ≡ true → are_statements (inside s head body) false (labels_in body ++ []) body ≡ true →
+    head.line < 2 ^ 31 → statements_need body ≤ k.registers → begins_need body ≤ k.registers →
+    Standing k (Y.Begin (Y.BlockOf head body)) index →
+    Does k labels (Y.Begin (Y.BlockOf head body)) index left'
+
+-- in it a jump comes to a label, and a RETURN, where it may have one, to the end: it is a procedure's or a function's
+-- own block then
 pub record IsHome (s : Scope) (valued : Bool) (k : Block) (left' : ℕ) : Type 0 where
   pub level : k.environment.level ≡ s.level
   pub own : k.environment.level ≡ k.call.beginning.layer.level
   pub block : block_around k.environment k.environment.level ≡ k.environment.block
-  pub returns : valued ≡ false → IsOwn k left'
-  pub values : valued ≡ true → IsValued k left'
+  pub returns : s.returns ≡ true → valued ≡ false → IsOwn k left'
+  pub values : s.returns ≡ true → valued ≡ true → IsValued k left'
 
 -- where loops count: the newest layer, in whose words nothing waits behind so many, and what is known whatever waits
 -- there
@@ -427,6 +440,7 @@ pub record KnowsLoops (s : Scope) (k : Block) (own : List Label) (most left' : �
   -- there nothing that is BASED is written
   pub puts :
       (waits : ℕ → Option ℕ) → s.puts ≡ true → KnowsPuts (without_located s) (telling waits layer others k) most
+  pub begins : (waits : ℕ → Option ℕ) → KnowsBegins s (telling waits layer others k) own left'
 
 -- a block whose own list has these labels
 pub record IsReady (s : Scope) (valued : Bool) (k : Block) (labels : List Label) (most left' : ℕ) : Type 0 where
@@ -444,6 +458,7 @@ pub record IsReady (s : Scope) (valued : Bool) (k : Block) (labels : List Label)
   pub calls : KnowsCalls s k labels most left'
   pub based : s.locates ≡ true → KnowsBased s k labels most left'
   pub jumps : KnowsJumps s k labels left'
+  pub begins : KnowsBegins s k labels left'
   pub texts : s.texts ≡ true → KnowsAroundTexts s k labels most
   pub signals : KnowsSignals s k labels left'
   pub puts : s.puts ≡ true → KnowsPuts s k most

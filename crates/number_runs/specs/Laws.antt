@@ -25,8 +25,8 @@ use Rattle.number_runs.specs.Numbers.{Scope, bounds_known, is_array_known, is_kn
 use Rattle.number_runs.specs.Numbers.{is_narrow_known, number_needs, number_sets, test_needs, test_sets, type_known}
 use Rattle.number_runs.specs.Numbers.{is_text, text_needs, IsBare}
 use Rattle.scalar_runs.specs.Scalars.{IsScalar}
-use Rattle.number_runs.specs.Statements.{are_statements, is_statement, statement_needs, statement_sets}
-use Rattle.number_runs.specs.Statements.{statements_need, statements_set}
+use Rattle.number_runs.specs.Statements.{are_statements, begin_needs, begins_need, is_statement, statement_needs}
+use Rattle.number_runs.specs.Statements.{statement_sets, statements_need, statements_set}
 use Rattle.number_runs.specs.Variables.{are_known}
 
 pub record ExpressionsDo : Type 0 where
@@ -46,14 +46,16 @@ pub record BodiesDo : Type 0 where
   pub statement :
       (s : Scope) (valued : Bool) (k : Block) (own labels : List Label) (stmt : Y.Stmt) (index most left' : ℕ)
       (r : IsReady s valued k own most left') → AreAround k own labels → is_statement s valued labels stmt ≡ true →
-      statement_needs stmt ≤ k.registers → HasFrame r 0 (statement_sets stmt) → Standing k stmt index →
+      statement_needs stmt ≤ k.registers → begin_needs stmt ≤ k.registers → HasFrame r 0 (statement_sets stmt) →
+      Standing k stmt index →
       Does k labels stmt index left'
   -- so does each statement of a block's own list
   pub each :
       (s : Scope) (valued : Bool) (k : Block) (body : Y.Stmts) (index most left' : ℕ)
       (r : IsReady s valued k (labels_in body ++ []) most left') →
       are_statements s valued (labels_in body ++ []) body ≡ true →
-      statements_need body ≤ k.registers → HasFrame r 0 (statements_set body) → AreStanding k body index →
+      statements_need body ≤ k.registers → begins_need body ≤ k.registers → HasFrame r 0 (statements_set body) →
+      AreStanding k body index →
       EachDoes k (labels_in body ++ []) body index left'
   -- and its labels stand where its statements do
   pub marked :
@@ -92,3 +94,8 @@ pub record TemporariesFit : Type 0 where
       are_known (variables_of_block e.program block) ≡ true →
       are_statements s valued (labels_in body ++ []) body ≡ true → statements_need body ≤ held_registers →
       statements_need body ≤ block_held e block body
+  -- nor do those of the begin blocks among them
+  pub begins :
+      (s : Scope) (valued : Bool) (e : Environment) (block : ℕ) (body : Y.Stmts) →
+      are_statements s valued (labels_in body ++ []) body ≡ true → begins_need body ≤ held_registers →
+      begins_need body ≤ block_held e block body

@@ -22,6 +22,34 @@ use Rattle.number_runs.specs.Based.{is_pointer_type, is_word_type}
 
 -- ---- what an expression may name
 
+-- what the expressions and statements of a begin block may name and call, by its head
+pub record Names : Type 0 where
+  pub blocks : List BlockPlace
+  pub receivers : List BlockPlace
+  pub is_function : (level number : ℕ) → Bool
+  pub is_procedure : (level number : ℕ) → Bool
+  pub is_given_function : (count level number : ℕ) → Bool
+  pub is_given_procedure : (count level number : ℕ) → Bool
+  pub locates : Bool
+  pub pointers : List BlockPlace
+  pub returns : Bool
+  pub is_begin : Y.BlockHead → Y.Stmts → Bool
+
+abbrev pub no_names : Names
+no_names =
+    record {
+      blocks = [];
+      receivers = [];
+      is_function = λ level number. false;
+      is_procedure = λ level number. false;
+      is_given_function = λ count level number. false;
+      is_given_procedure = λ count level number. false;
+      locates = false;
+      pointers = [];
+      returns = false;
+      is_begin = λ head body. false;
+    }
+
 -- the program, the level of the block whose expressions these are, the blocks whose variables they may name, those
 -- whose parameters they may, and the functions and the procedures without parameters that it may call: by the level of
 -- the block that declares one, and its number
@@ -60,6 +88,27 @@ pub record Scope : Type 0 where
   pub signals : Condition → Bool
   -- whether they may have ONCODE
   pub codes : Bool
+  -- whether statements of its own may return, which begin blocks may stand among them, and what those may name
+  pub returns : Bool
+  pub is_begin : Y.BlockHead → Y.Stmts → Bool
+  pub inner : Y.BlockHead → Y.Stmts → Names
+
+-- that of a begin block among the statements
+abbrev pub inside : Scope → Y.BlockHead → Y.Stmts → Scope
+inside s head body =
+    record s {
+      level = head.level;
+      blocks = (s.inner head body).blocks;
+      receivers = (s.inner head body).receivers;
+      is_function = (s.inner head body).is_function;
+      is_procedure = (s.inner head body).is_procedure;
+      is_given_function = (s.inner head body).is_given_function;
+      is_given_procedure = (s.inner head body).is_given_procedure;
+      locates = (s.inner head body).locates;
+      pointers = (s.inner head body).pointers;
+      returns = (s.inner head body).returns;
+      is_begin = (s.inner head body).is_begin;
+    }
 
 -- ---- variables
 

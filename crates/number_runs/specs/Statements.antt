@@ -10,7 +10,7 @@ use Rattle.number_runs.specs.Numbers.{Scope, call_needs, call_sets, are_argument
 use Rattle.number_runs.specs.Numbers.{is_reference, is_narrow_with, is_test, number_needs, number_sets}
 use Rattle.number_runs.specs.Numbers.{reference_needs, reference_sets, test_needs, test_sets, is_text, text_needs}
 use Rattle.number_runs.specs.Numbers.{without_given, is_area_known, is_automatic, is_based_variable, is_pointer_in}
-use Rattle.number_runs.specs.Numbers.{spot_of, without_located, is_followed, name_sets}
+use Rattle.number_runs.specs.Numbers.{spot_of, without_located, is_followed, name_sets, inside}
 use Rattle.number_runs.specs.Narrow.{has_precision, is_bit, is_text_type}
 use Rattle.number_runs.specs.Puts.{is_put, put_needs, put_sets}
 
@@ -126,9 +126,9 @@ abbrev mutual
       && (gives_lists s
       && (s.is_given_procedure (suc (argument_count rest)) level number
       && are_arguments (without_located s) (Y.ArgumentThen first rest)))
-  is_statement s valued labels (Y.Return line) = is_line line && (s.own && not valued)
+  is_statement s valued labels (Y.Return line) = is_line line && (s.own && (s.returns && not valued))
   is_statement s valued labels (Y.ReturnValue type source line) =
-      is_line line && (s.own && (valued && (is_fixed type && is_stored s source)))
+      is_line line && (s.own && (s.returns && (valued && (is_fixed type && is_stored s source))))
   is_statement s valued labels (Y.Goto level label line) =
       is_line line && ((s.own && ((level == s.level) && is_among label labels)) || s.is_outer level label)
   is_statement s valued labels (Y.Stop line) = is_line line
@@ -139,6 +139,9 @@ abbrev mutual
   is_statement s valued labels (Y.AssignArea target source line) =
       is_line line && (s.locates && (is_area_variable s target && is_area_variable s source))
   is_statement s valued labels (Y.EmptyArea target line) = is_line line && (s.locates && is_area_variable s target)
+  is_statement s valued labels (Y.Begin (Y.BlockOf head body)) =
+      is_line head.line
+      && (s.is_begin head body && are_statements (inside s head body) false (labels_in body ++ []) body)
   is_statement s valued labels _ = false
 
   pub are_statements : Scope → (valued : Bool) → List Label → Y.Stmts → Bool
@@ -170,6 +173,22 @@ abbrev mutual
   statements_need (Y.EndOfList own) = 0
   statements_need (Y.StmtThen own first rest) = max (statement_needs first) (statements_need rest)
 
+-- and how many those of the begin blocks among them need, which save none themselves
+abbrev mutual
+  pub begin_needs : Y.Stmt → ℕ
+  begin_needs (Y.If condition unit line) = begin_needs unit
+  begin_needs (Y.IfElse condition unit otherwise line) = max (begin_needs unit) (begin_needs otherwise)
+  begin_needs (Y.Do body line) = begins_need body
+  begin_needs (Y.DoWhile condition body line) = begins_need body
+  begin_needs (Y.DoOnce variable start condition body line) = begins_need body
+  begin_needs (Y.DoCount counter start limit step condition body line) = begins_need body
+  begin_needs (Y.Begin (Y.BlockOf head body)) = max (statements_need body) (begins_need body)
+  begin_needs _ = 0
+
+  pub begins_need : Y.Stmts → ℕ
+  begins_need (Y.EndOfList own) = 0
+  begins_need (Y.StmtThen own first rest) = max (begin_needs first) (begins_need rest)
+
 -- how many words of the frame are set aside: by loops for limit, step and start before the first turn, and two in each
 -- turn, by calls for lists of arguments, and by what reaches what is BASED
 abbrev mutual
@@ -182,7 +201,8 @@ abbrev mutual
   statement_sets (Y.Do body line) = statements_set body
   statement_sets (Y.DoWhile condition body line) = max (test_sets condition) (statements_set body)
   statement_sets (Y.DoOnce variable start condition body line) =
-      max (max (stored_sets start) (behind_sets start (reference_sets variable))) (max (condition_sets condition) (statements_set body))
+      max (max (stored_sets start) (behind_sets start (reference_sets variable)))
+      (max (condition_sets condition) (statements_set body))
   statement_sets (Y.DoCount counter start limit step condition body line) =
       max (3 + count_sets start limit) (2 + max (condition_sets condition) (statements_set body))
   statement_sets (Y.CallProcedure call line) = call_sets call

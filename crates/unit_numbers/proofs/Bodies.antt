@@ -60,6 +60,7 @@ use Rattle.phase_runs.proofs.Groups.{group_through}
 use Rattle.phase_runs.proofs.Lists.{list_through}
 use Rattle.phase_runs.proofs.Loops.{loop_through}
 use Rattle.phase_runs.proofs.Units.{on_through, past_begun, phases_change, revert_through, system_through}
+use Rattle.number_runs.proofs.BeginsSaved.{begin_unneeded, begins_unneeded}
 use Rattle.unit_numbers.specs.Calls.{has_jumps, is_jumped_to}
 use Rattle.unit_numbers.specs.Programs.{are_steps, is_plain_step, is_step, is_step_test}
 use Rattle.unit_numbers.specs.Units.{is_unit}
@@ -107,6 +108,7 @@ ready m h ih more blocks c o os a own few clear home knows told =
       based = λ may. absurd (cc may);
       calls = knows.calls;
       jumps = knows.jumps;
+      begins = λ labels head body index includes is. absurd (cc is);
       texts = λ may. absurd (cc may);
       signals = knows.signals;
       puts = knows.puts;
@@ -121,6 +123,7 @@ ready m h ih more blocks c o os a own few clear home knows told =
         calls = λ waits. (told waits).calls;
         given = λ may'. absurd (cc may');
         jumps = λ waits. (told waits).jumps;
+        begins = λ waits labels head body index includes is. absurd (cc is);
         texts = λ waits may. absurd (cc may);
         signals = λ waits. (told waits).signals;
         puts = λ waits. (told waits).puts;
@@ -169,9 +172,11 @@ each_body once {program} m (suc more) h blocks c o os ih e above =
     (λ free. above) each own
     (rises_above m h (block_of m h o' os) own above) in
     let few : a.free.layer.words ≤ most_set = omega (arith, words, waiting) in
+    let none = begins_unneeded (scope_of m c) c.valued own c.body (λ head inner'. refl) e.part.statements in
     record {
       each = body_does (scope_of m c) c.valued (block_of m h o os) c.body c.index (most_for program) left_over
           (ready m h ih (suc more) blocks c o os a own few e.clear e.home knows told) e.part.statements e.part.needs
+          (omega (arith, none))
           (frame_left m h ih (suc more) blocks c o os a own few e.clear e.home knows told (statements_set c.body)
           (omega (arith, words)))
           e.part.placed;
@@ -268,7 +273,7 @@ main_home once {program} m h ih writes =
       level = refl;
       own = refl;
       block = own_block program m.head m.body None found;
-      returns = λ e. record {
+      returns = λ may e. record {
         owner = refl;
         end = end.place;
         near = end.near;
@@ -278,7 +283,7 @@ main_home once {program} m h ih writes =
         kind = refl;
         registers = omega arith;
       };
-      values = λ e. absurd (cc e);
+      values = λ may e. absurd (cc e);
     }
 
 -- ---- its statements
@@ -355,9 +360,10 @@ written_does once {program} m input more past small b known writes labels stmt i
     let own = labels_in (list_of m) in
     let held = main_held m in
     let z = stands_by once m input more past small b known writes in
+    let none = begin_unneeded (main_scope m writes) false labels stmt (λ head body. refl) is in
     form_does (main_scope m writes) false (block_of m h (main_outer m h) []) own labels stmt index (most_for program)
     left_over z.ready (record { at = around.at; includes = around.includes }) is (omega (arith, fits, held))
-    (z.framed (statement_sets stmt) sets) at
+    (omega (arith, none)) (z.framed (statement_sets stmt) sets) at
 
 -- ---- through the phases that its ONs give it
 

@@ -12,7 +12,7 @@ use Rattle.pli_coding.specs.Registers.{held_registers}
 use Rattle.pli_coding.specs.Statements.{unit_environment, unit_variables}
 use Rattle.unit_runs.specs.Establishing.{OnUnit}
 use Rattle.number_runs.specs.Numbers.{has_none}
-use Rattle.number_runs.specs.Statements.{are_statements, is_line, statements_need, statements_set}
+use Rattle.number_runs.specs.Statements.{are_statements, begins_need, is_line, statements_need, statements_set}
 use Rattle.number_headlines.specs.Programs.{is_body, most_waiting}
 use Rattle.unit_numbers.specs.Calls.{is_body_in, scope_in}
 use Rattle.unit_numbers.specs.Units.{is_bare, is_unit}
@@ -45,15 +45,16 @@ fit_is program ns all caller unit valued body h =
     one writes g =
         let fits = nat_le (statements_need body) held_registers in
         let waiting = nat_le (statements_set body) most_waiting in
+        let begins = nat_le (begins_need body) held_registers in
         let a = and_parts (are_statements (scope_in program ns all caller unit writes) valued (labels_in body ++ [])
         body)
-        (fits && waiting) g in
-        let b = and_parts fits waiting a.1 in
+        (fits && (begins && waiting)) g in
+        let b = and_parts fits (begins && waiting) a.1 in
         record {
           writes = writes;
           statements = a.0;
           fits = leb-true (statements_need body) held_registers b.0;
-          waiting = leb-true (statements_set body) most_waiting b.1;
+          waiting = leb-true (statements_set body) most_waiting (and_parts begins waiting b.1).1;
         }
 
     by :

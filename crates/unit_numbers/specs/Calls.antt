@@ -12,7 +12,7 @@ use Rattle.pli_meaning.specs.Executing.{labels_in}
 use Rattle.pli_meaning.specs.StorageState.{same_condition}
 use Rattle.program_places.specs.Programs.{environment_for}
 use Rattle.unit_runs.specs.Establishing.{OnUnit}
-use Rattle.number_runs.specs.Numbers.{Scope, has_none}
+use Rattle.number_runs.specs.Numbers.{Scope, has_none, no_names}
 use Rattle.number_headlines.specs.Programs.{body_of, is_body, is_callable, is_valued, numbers_of, places_to}
 
 -- ---- the units of a list: of each ON in it, and in the groups, choices and loops of it
@@ -93,6 +93,9 @@ scope_in program ns all caller unit writes =
           unit && (has_jumps all && ((level == caller.level) && is_among label (labels_in all)));
       signals = λ c. true;
       codes = true;
+      returns = not unit;
+      is_begin = λ head inner. false;
+      inner = λ head inner. no_names;
     }
 
 -- it does one or the other

@@ -1,0 +1,5 @@
+pub mod DeepBlocks
+pub mod DeepBegins
+pub mod BegunVariables
+pub mod FullBegins
+pub mod InnerBlocks

@@ -1,0 +1,3 @@
+pub mod DeepBegins
+pub mod BegunVariables
+pub mod InnerBlocks
