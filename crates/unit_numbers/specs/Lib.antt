@@ -1,5 +1,7 @@
 pub mod Calls
 pub mod Units
+pub mod Steps
+pub mod Called
 pub mod Programs
 pub mod Headlines
 pub mod Rows
