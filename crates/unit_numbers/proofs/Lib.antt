@@ -42,3 +42,4 @@ pub mod RescueRows
 pub mod HaltRows
 pub mod TollRows
 pub mod PleadRows
+pub mod LodgeRows

@@ -18,3 +18,4 @@ pub mod RescueRows
 pub mod HaltRows
 pub mod TollRows
 pub mod PleadRows
+pub mod LodgeRows
