@@ -38,7 +38,7 @@ drop_short zero xs = omega arith
 drop_short (suc n) [] = omega arith
 drop_short (suc n) (x ∷ xs) = let l = drop_short n xs in omega (arith, l)
 
-ancestor_dropped :
+pub ancestor_dropped :
     (units : UnitPlaces) (n : ℕ) (as' : List Activation) (φs : List Layer) (height level : ℕ) →
     AreActive units as' φs → height ≤ length (drop n as') →
     ancestor as' height level ≡ ancestor (drop n as') height level

@@ -67,13 +67,13 @@ past_binding (e ∷ past) p level variable =
     binding_same _ (past_point past p).state.activations level variable
     ∙ past_binding past p level variable
 
-past_places :
+pub past_places :
     (past : Past) (p : Point) → (past_point past p).places ≡ p.places
 past_places [] p = refl
 past_places (e ∷ past) p = past_places past p
 
 -- a block in a phase
-abbrev phase_at : Block → Past → Block
+abbrev pub phase_at : Block → Past → Block
 phase_at k past = in_phase k (past_point past k.first)
 
 past_frame_of :

@@ -13,31 +13,23 @@ use Rattle.pli_meaning.specs.StorageState.{automatic_in_use, most_activations, m
 use Rattle.pli_coding.specs.Allocating.{act_code}
 use Rattle.pli_coding.specs.Assembly.{size_of}
 use Rattle.pli_coding.specs.Images.{linked_code}
-use Rattle.pli_coding.specs.Environments.{none_taken}
-use Rattle.pli_coding.specs.Procedures.{no_value}
-use Rattle.pli_coding.specs.Statements.{stmt_code, stmts_code}
+use Rattle.pli_coding.specs.Statements.{stmt_code}
 use Rattle.code_marks.specs.CodeMarks.{MarkedOnce}
 use Rattle.activation_relation.specs.Frames.{lower_end, upper_top}
 use Rattle.activation_relation.specs.Layers.{Point}
 use Rattle.run_steps.specs.Items.{Linked}
 use Rattle.run_steps.proofs.Jumps.{back_of}
 use Rattle.run_steps.proofs.Linking.{size_append}
-use Rattle.program_places.specs.Programs.{body_for, code_for, environment_for, links_for, procedures_index}
+use Rattle.program_places.specs.Programs.{code_for, links_for, procedures_index}
 use Rattle.program_places.specs.Programs.{program_environment}
 use Rattle.program_places.proofs.Callees.{callee_stands}
 use Rattle.program_places.proofs.Found.{known}
 use Rattle.program_places.proofs.Functions.{function_stands}
-use Rattle.program_places.proofs.Labels.{are_marked}
-use Rattle.program_places.proofs.Procedures.{body_placed}
 use Rattle.program_runs.specs.Calls.{left_over}
 use Rattle.program_runs.specs.Starts.{image_parts}
 use Rattle.program_runs.specs.Statements.{DoesWith, Outer, as_outer, set_aside}
 use Rattle.expression_runs.specs.Assignments.{setting_around}
 use Rattle.expression_runs.specs.Laws as L
-use Rattle.function_runs.specs.FunctionCalls.{called_from}
-use Rattle.jump_runs.specs.Functions.{function_in}
-use Rattle.jump_runs.proofs.FunctionLists.{each_ends}
-use Rattle.error_units.proofs.Conditions.{end_by}
 use Rattle.nested_calls.specs.NestedCalls.{HasFrame, IsNestedCall}
 use Rattle.nested_calls.specs.NestedFunctions.{IsNestedFunction}
 use Rattle.nested_calls.proofs.DeepCalls.{deep_call_ends}
@@ -51,12 +43,12 @@ use Rattle.unit_numbers.proofs.Callees.{callee_of, site_of}
 use Rattle.unit_numbers.proofs.Entered.{called_entered, called_part}
 use Rattle.unit_numbers.proofs.Full.{are_full}
 use Rattle.unit_numbers.proofs.Homes.{Home, IsHome'}
-use Rattle.unit_numbers.proofs.Inner.{Inner, inner_is}
+use Rattle.unit_numbers.proofs.Inner.{Inner, inner_is, inner_set}
 use Rattle.unit_numbers.proofs.Mains.{Main, most_for, run_for}
-use Rattle.unit_numbers.proofs.Named.{Moment, are_made, bare_block, entered_at, inner_set}
+use Rattle.unit_numbers.proofs.Named.{Moment, are_made, bare_block, entered_at}
 use Rattle.unit_numbers.proofs.NestedJumps.{nested_jump_call_does, nested_jump_function_does}
-use Rattle.unit_numbers.proofs.Raised.{around_for, entry_low}
-use Rattle.unit_numbers.proofs.Routines.{error_routines}
+use Rattle.unit_numbers.proofs.Established.{entry_low}
+use Rattle.unit_numbers.proofs.Raised.{around_for}
 use Rattle.unit_numbers.proofs.Scenes.{EachBody, IsAt, Part, Rises, block_of, scope_of}
 
 -- the frame of what is called has room
@@ -144,7 +136,8 @@ call_by once {program} m h ih more b part out os a each own rises words set labe
     let r = entered_at i k call p numbers in
     let os' = as_outer k labels ∷ os in
     (each h b (called_part i) (as_outer (bare_block m h false more r) []) os' ih
-    (called_entered once m (record { at = a; among = o }) i call labels pass shallow b') (rises labels includes)).each)
+    (called_entered once m (record { at = a; among = o }) i call labels pass shallow b') (rises labels includes)).list
+    refl)
     a.begun)
     (λ e.
     full_call_ends words k c level line index left_over more is shallow
@@ -204,16 +197,7 @@ value_by once {program} m h ih more b part out os a each own rises words set lab
     let moment : Moment m h (suc more) (suc b) part out os p numbers = record { at = a; among = o } in
     let goes = each h b (called_part i) (as_outer (bare_block m h true more r) []) os' ih
     (called_entered once m moment i call labels pass shallow list'.begun) (rises labels includes) in
-    let routines = error_routines once program m.loadable in
-    let here = list'.linked.inside in
-    let n0 = size_append (stmts_code (environment_for program i.head) none_taken i.body) (no_value i.head.line) in
-    each_ends (function_in z (called_from c call) p numbers) i.body (body_for program i.head i.body) list'
-    (are_marked (links_for program) (linked_code (code_for program)) (body_for program i.head i.body)
-    (environment_for program i.head) i.body
-    (body_placed once program i.head i.body (Some (Y.FixedLeaf 31)) m.loadable i.is))
-    goes.each
-    (end_by (function_in z (called_from c call) p numbers) i.body (body_for program i.head i.body) (most_for program)
-    list' routines (goes.error i.head.line routines) (omega (arith, here, n0)))))
+    goes.function refl list'))
     (λ e.
     full_function_ends z c level more is shallow
     (λ call p numbers o. are_full m (record { at = a; among = o }) i call ih.few (past used e))))

@@ -2,7 +2,7 @@
 use Rattle.std.proofs.Common.{◌≡◌, ℕ, suc, ◌+◌, ◌^◌, ◌<◌, List, [], ◌∷◌, length, Bool, None, Some, true, false, refl}
 use Rattle.std.proofs.Common.{sym, ap, ◌∙◌, subst}
 use Rattle.std.proofs.Common.{arith}
-use Rattle.std.specs.Prelude.{cond, nat_lt, ◌==◌}
+use Rattle.std.specs.Prelude.{◌&&◌, cond, nat_lt, ◌==◌}
 use Rattle.std.proofs.lemmas.Bool.{ltb-true}
 use Rattle.pli_language.specs.declared.condition.Condition.{Condition}
 use Rattle.pli_typing.specs.TypedTree as Y
@@ -35,7 +35,6 @@ use Rattle.nested_calls.specs.Nested.{IsNested, parent_at}
 use Rattle.number_runs.specs.Knowledge.{IsHome}
 use Rattle.number_runs.specs.Numbers.{bounds_known, type_known}
 use Rattle.number_runs.specs.Variables.{words_in}
-use Rattle.number_runs.proofs.BlocksTaken.{plain_known, registers_held}
 use Rattle.number_runs.proofs.Words.{room_behind}
 use Rattle.number_headlines.proofs.FullWords.{words_at, words_count, words_lower}
 use Rattle.number_headlines.proofs.Loops.{after_waits, after_words}
@@ -46,13 +45,14 @@ use Rattle.condition_codes.specs.Codes.{HasCode}
 use Rattle.jump_runs.proofs.Numbers.{alone, leaving, number_leaving}
 use Rattle.unit_numbers.proofs.Arrays.{array_leaving, narrow_leaving}
 use Rattle.unit_numbers.proofs.Callees.{Called, callee_of}
-use Rattle.unit_numbers.proofs.Homes.{Home, home_block, low_array, low_spot, world_of, low_narrow}
-use Rattle.unit_numbers.proofs.Inner.{Inner}
-use Rattle.unit_numbers.proofs.Mains.{Main, level_of, main_scope}
+use Rattle.unit_numbers.specs.Calls.{has_jumps, is_jumped_to}
+use Rattle.unit_numbers.proofs.Homes.{Home, world_of}
+use Rattle.unit_numbers.proofs.Hosts.{InForceBelow, IsNext, force_next, in_force_below}
+use Rattle.unit_numbers.proofs.Inner.{Inner, inner_held, inner_ons, inner_set}
+use Rattle.unit_numbers.proofs.Mains.{Main, list_of}
 use Rattle.unit_numbers.proofs.Named.{DontPass, Moment, are_made, bare_block, begun_room, called_scope, each_array}
-use Rattle.unit_numbers.proofs.Named.{each_narrow, each_number, entered_at, inner_set, made_idle, nested_by}
-use Rattle.unit_numbers.proofs.Named.{outer_array_by, outer_by, outer_narrow_by}
-use Rattle.unit_numbers.proofs.Scenes.{IsEntered, Part, block_of}
+use Rattle.unit_numbers.proofs.Named.{each_narrow, each_number, entered_at, made_idle, nested_by}
+use Rattle.unit_numbers.proofs.Scenes.{IsEntered, Part, block_of, may_host}
 
 -- ---- its activation: it has no units of its own
 
@@ -91,17 +91,6 @@ called_above false {program} m {h} {out = out} {os} {p} o {level} i call =
 called_above true {program} m {h} {out = out} {os} {p} o {level} i call =
     made_above i.head.level (length p.state.activations + 1) (parent_at (block_of m h out os) level)
     p.state.activations _ (words_in (environment_for program i.head)) _ (record { bindings = []; is = refl })
-
--- the units in force in it are those that are in force where it is called
-pub forced_there :
-    {program : Y.Program} (m : Main program) {h : Home} {more blocks : ℕ} {part : Part} {out : Outer}
-    {os : List Outer} {p : Point} {numbers : ℕ → ℕ} (o : Moment m h (suc more) blocks part out os p numbers)
-    {v : Bool} {level number : ℕ} (i : Inner m part.caller v level number) (call : ℕ) (d : Condition) →
-    force (bare_block m h v more (entered_at i (block_of m h out os) call p numbers)).first.state.activations d
-    ≡ force (home_block m h).first.state.activations d
-forced_there m o {v = v} i call d =
-    ap (λ as'. force as' d) (called_above v m o i call).is ∙ ap (λ as'. force as' d) o.among.later.activations
-    ∙ o.at.forced d
 
 -- ONCODE is there what it is where it is called
 code_there :
@@ -146,6 +135,15 @@ oldest_there m {h} {out = out} {os} {p} o {v} {level} i call =
 nested_leaving : (k : Block) (os : List Outer) → IsNested k → IsNested (leaving k os)
 nested_leaving k os n = record { own = n.own; few = n.few; some = n.some; same = n.same }
 
+-- units jump to no label of it
+called_unjumped :
+    {program : Y.Program} {m : Main program} {caller : Y.BlockHead} {v : Bool} {level number : ℕ}
+    (i : Inner m caller v level number) (all : Y.Stmts) → is_jumped_to i.head false all ≡ false
+called_unjumped {level = level} i all =
+    let inside = i.inside in
+    let e : (i.head.level == 0) ≡ false = eqb-other i.head.level 0 (λ f. omega (arith, inside, f)) in
+    ap (λ q. q && has_jumps all) e
+
 -- what runs
 abbrev pub called_part :
     {program : Y.Program} → {m : Main program} → {caller : Y.BlockHead} → {valued : Bool} → {level number : ℕ} →
@@ -154,7 +152,7 @@ called_part {program} {valued = valued} i =
     record {
       caller = i.head;
       unit = false;
-      writes = i.fit.writes;
+      writes = false;
       valued = valued;
       body = i.body;
       index = body_for program i.head i.body;
@@ -261,9 +259,19 @@ called_entered once {program} m {h} {more} {b} {part} {out} {os} {p} {numbers} o
     let limit = begun'.limit in
     let counts = words_count image_parts start φ e first 0 ds plain
     (record { activation = _; below = _; active = refl; some = omega arith }) in
-    let registers = registers_held (called_scope m i) v e i.head.number i.body (plain_known ds plain) i.fit.statements
-    i.fit.fits in
-    let outer = level_of m in
+    let inside = i.inside in
+    let above = called_above v m o i call in
+    let next : IsNext k (whole_block m h v more r os') numbers p = record {
+      among = o.among;
+      activation = _;
+      layer = _;
+      active = above.is;
+      layers = room.newest;
+      forced = λ d. ap (λ as'. force as' d) above.is;
+      remains = b'.remains;
+    } in
+    let below : (d : Condition) → InForceBelow m (whole_block m h v more r os') d = λ d.
+    force_next next (may_host o.at) d (o.at.forced d) in
     record {
       at = record {
         begun = b';
@@ -281,21 +289,9 @@ called_entered once {program} m {h} {more} {b} {part} {out} {os} {p} {numbers} o
             array_leaving inner os' x (bounds_known (called_scope m i) x) (each_array m o i call pass bare x is);
         narrows = λ x is.
             narrow_leaving inner os' x (type_known (called_scope m i) x) (each_narrow m o i call pass bare x is);
-        forced = λ d. forced_there m o i call d;
+        forced = λ d. in_force_below (below d);
+        settled = λ jumped. absurd (cc (sym (called_unjumped i (list_of m)) ∙ jumped));
         oldest = oldest_there m o i call;
-        mains = λ x is.
-            let low = low_spot m h x is in
-            number_leaving inner os' x (outer_by v m o i call pass bare x (omega (arith, low)) (o.at.mains x is));
-        main_arrays = λ x is.
-            let low = low_array m h x is in
-            array_leaving inner os' x (bounds_known (main_scope m false) x)
-            (outer_array_by v m o i call pass bare x (bounds_known (main_scope m false) x) (omega (arith, low))
-            (o.at.main_arrays x is));
-        main_narrows = λ x is.
-            let low = low_narrow m h x is in
-            narrow_leaving inner os' x (type_known (main_scope m false) x)
-            (outer_narrow_by v m o i call pass bare x (type_known (main_scope m false) x) (omega (arith, low))
-            (o.at.main_narrows x is));
         idle = made_idle φ xs start;
         code = code_there m o i call;
         told = called_of_program program k (whole_block m h v more r os') numbers o.at.told o.among refl refl b';
@@ -316,13 +312,21 @@ called_entered once {program} m {h} {more} {b} {part} {out} {os} {p} {numbers} o
         };
       };
       part = record {
-        statements = i.fit.statements;
-        needs = registers;
+        statements = λ unit. absurd (cc unit);
+        needs = inner_held m i;
         waiting = i.fit.waiting;
         placed = body_placed once program i.head i.body (result_of v) m.loadable i.is;
       };
       words = after_words serial φ xs ∙ inner_set m i;
       clear = λ n. ap (λ waits. waits n) (after_waits serial φ xs);
       inner = λ unit. absurd (cc unit);
-      home = λ own. called_home once v m h more i k call p numbers os' b';
+      visited = λ own. record {
+        steps = i.fit.steps;
+        ons = inner_ons once m i;
+        bare = record { activation = _; others = p.state.activations; none = refl; is = above.is };
+        level = refl;
+        inner = omega (arith, inside);
+        below = below;
+        home = called_home once v m h more i k call p numbers os' b';
+      };
     }

@@ -1,33 +1,47 @@
--- The units that the main procedure has at some point of its list: each is the system's or that of one of its ONs,
--- and so is the one in force.
-use Rattle.std.proofs.Common.{◌≡◌, ◌⊎◌, inl, inr, ℕ, List, [], ◌∷◌, ◌++◌, None, true, refl, sym, ap, ◌∙◌, subst}
-use Rattle.std.specs.Prelude.{not}
+-- The ONs of a list, of the main procedure or of what is called: each is of the class, stands at its place, and is one
+-- of the program's.
+use Rattle.std.proofs.Common.{◌≡◌, ◌⊎◌, inl, inr, ℕ, ◌+◌, ◌<◌, ◌≤◌, List, [], ◌∷◌, ◌++◌, Option, None, Some, true, false}
+use Rattle.std.proofs.Common.{refl, sym, ap, ◌∙◌, subst, arith}
+use Rattle.std.specs.Prelude.{◌==◌, ◌||◌, Bool, cond, not}
 use Rattle.std.specs.List.{list_any}
+use Rattle.std.proofs.lemmas.Bool.{eqb-true}
 use Rattle.pli_language.specs.declared.condition.Condition.{Condition}
 use Rattle.pli_typing.specs.TypedTree as Y
+use Rattle.pli_meaning.specs.Control.{Label}
+use Rattle.pli_meaning.specs.DeclaredShapes.{head_of, procedure_numbered}
 use Rattle.pli_meaning.specs.Executing.{labels_in}
 use Rattle.pli_meaning.specs.StorageState.{Activation, force, same_condition}
+use Rattle.pli_coding.specs.Assembly.{size_of}
+use Rattle.pli_coding.specs.Environments.{Environment, none_taken}
+use Rattle.pli_coding.specs.Images.{linked_code}
+use Rattle.pli_coding.specs.Procedures.{procedure_of_block}
+use Rattle.pli_coding.specs.Statements.{stmt_code}
 use Rattle.code_marks.specs.CodeMarks.{MarkedOnce}
 use Rattle.activation_relation.specs.ServiceLaws.{IsSystem}
-use Rattle.program_places.specs.Programs.{body_for, environment_for}
+use Rattle.program_places.specs.Placed.{Placed}
+use Rattle.program_places.specs.Programs.{body_for, code_for, entry_among, environment_for, links_for, procedures_index}
+use Rattle.program_places.specs.Programs.{program_environment}
 use Rattle.program_places.proofs.Procedures.{body_placed}
 use Rattle.program_places.proofs.Starts.{main_found}
+use Rattle.program_runs.specs.Statements.{Block}
 use Rattle.number_runs.specs.Knowledge.{AreStanding}
-use Rattle.unit_runs.specs.Establishing.{OnUnit}
+use Rattle.number_headlines.specs.Programs.{body_of}
+use Rattle.unit_runs.specs.Establishing.{OnUnit, on_of}
 use Rattle.phase_runs.specs.Units.{AreBy, ArePlaced, IsListed, Past}
-use Rattle.unit_numbers.specs.Calls.{has_unit}
-use Rattle.unit_numbers.proofs.Forces.{Forced, Found, force_own}
-use Rattle.unit_numbers.proofs.Mains.{Alone, Main, block_for, list_of, ons_of, placed, units_for}
+use Rattle.unit_numbers.specs.Called.{called_units, units_if}
+use Rattle.unit_numbers.specs.Calls.{all_units_in, has_unit}
+use Rattle.unit_numbers.specs.Programs.{are_apart}
+use Rattle.unit_numbers.specs.Steps.{are_steps}
+use Rattle.unit_numbers.specs.Units.{is_unit}
+use Rattle.unit_numbers.proofs.Forces.{FoundOwn, force_over}
+use Rattle.unit_numbers.proofs.Mains.{Alone, Main, all_ons, block_for, called_placed, list_of, ons_of, placed, placed_if}
+use Rattle.unit_numbers.proofs.Mains.{level_of, units_for}
 use Rattle.unit_numbers.proofs.Past.{main_alone, main_past}
-use Rattle.unit_numbers.proofs.Places.{IsPlaced, all_heads_in, all_on_placed, listed_at, placed_by, unit_listed}
+use Rattle.unit_numbers.proofs.Places.{all_heads_in, all_on_placed, all_placed_in, heads_of, listed_at, listed_back}
+use Rattle.unit_numbers.proofs.Places.{listed_front, placed_by, two_heads, unit_listed}
 
 abbrev pub start_of : {program : Y.Program} → Main program → ℕ
 start_of {program} m = body_for program m.head m.body
-
--- an ON of the main procedure
-abbrev pub IsUnitOf : {program : Y.Program} → Main program → (input : List ℕ) → (acts : ℕ) → OnUnit × ℕ → Type 0
-IsUnitOf {program} m input acts e =
-    IsPlaced program m.called m.head (list_of m) (block_for m input acts) (start_of m) e
 
 pub list_placed :
     MarkedOnce → {program : Y.Program} (m : Main program) (input : List ℕ) (acts : ℕ) →
@@ -35,74 +49,160 @@ pub list_placed :
 list_placed once {program} m input acts =
     body_placed once program m.head m.body None m.loadable (main_found program (placed m) m.main)
 
-pub unit_stands :
-    MarkedOnce → {program : Y.Program} (m : Main program) (input : List ℕ) (acts : ℕ) (e : OnUnit × ℕ) →
-    IsListed e (ons_of m) → IsUnitOf m input acts e
-unit_stands once {program} m input acts e there =
-    all_on_placed program m.called m.head (list_of m) (block_for m input acts) (labels_in (list_of m) ++ [])
-    (list_of m) (start_of m) m.steps (list_placed once m input acts) e there
-
--- the program has each of them at its place
-pub ons_placed : {program : Y.Program} (m : Main program) → ArePlaced (units_for m) (ons_of m)
-ons_placed m = placed_by (units_for m) (ons_of m) (λ e h. listed_at e (ons_of m) h)
-
--- ---- the unit in force for a condition: one of those that it may have
-
-pub record Newest {program : Y.Program} (m : Main program) (input : List ℕ) (acts : ℕ) (past : Past)
-    (c : Condition) : Type 0
+-- procedures stand behind the start and the routines of raises
+pub entry_low :
+    (e : Environment) (number : ℕ) (ps : List Y.Procedure) (index : ℕ) → index ≤ entry_among e number ps index
+entry_low e number [] index = omega arith
+entry_low e number (p ∷ ps) index =
+    by ((head_of p.block).number == number)
+    (entry_low e number ps (index + size_of (procedure_of_block e p.block p.parameters p.result)))
   where
-    pub unit : OnUnit
-    pub index : ℕ
-    pub listed : IsListed (unit, index) (ons_of m)
-    pub placed : IsUnitOf m input acts (unit, index)
-    pub condition : unit.condition ≡ c
-    pub forced : Forced (force (main_past m input acts past).first.state.activations c) unit
+    by :
+        (q : Bool) →
+        index + size_of (procedure_of_block e p.block p.parameters p.result)
+        ≤ entry_among e number ps (index + size_of (procedure_of_block e p.block p.parameters p.result)) →
+        index
+        ≤ cond q index
+        (entry_among e number ps (index + size_of (procedure_of_block e p.block p.parameters p.result)))
+    by true more = omega arith
+    by false more = omega (arith, more)
 
-abbrev pub InForce :
-    {program : Y.Program} → Main program → (input : List ℕ) → (acts : ℕ) → Past → Condition → Type 0
-InForce m input acts past c =
-    IsSystem (force (main_past m input acts past).first.state.activations c) ⊎ Newest m input acts past c
+-- ---- an ON of a list of the program
 
-pub in_force :
-    MarkedOnce → {program : Y.Program} (m : Main program) (input : List ℕ) (acts : ℕ) (past : Past) →
-    AreBy (ons_of m) past → (c : Condition) → InForce m input acts past c
-in_force once {program} m input acts past known c =
-    by (force_own (ons_of m) one c refl a.own)
+pub record IsOnOf {program : Y.Program} (m : Main program) (head : Y.BlockHead) (e : OnUnit × ℕ) : Type 0 where
+  pub is : is_unit program m.called head (list_of m) e.0 ≡ true
+  pub placed :
+      Placed (links_for program) (linked_code (code_for program)) e.1
+      (stmt_code (environment_for program head) none_taken (on_of e.0))
+  pub low : procedures_index program ≤ e.1
+  pub level : head.level < 16
+  pub listed : IsListed e (all_ons m)
+
+-- where the code of a block stands
+abbrev site_at : {program : Y.Program} → Main program → Y.BlockHead → Block
+site_at {program} m head = record (block_for m [] 0) { environment = environment_for program head }
+
+pub ons_are :
+    {program : Y.Program} (m : Main program) (head : Y.BlockHead) (valued : Bool) (labels : List Label) (body : Y.Stmts)
+    (index : ℕ) → head.level < 16 → procedures_index program ≤ index → AreStanding (site_at m head) body index →
+    are_steps program m.called head (list_of m) valued labels body ≡ true →
+    ((e : OnUnit × ℕ) → IsListed e (all_placed_in (environment_for program head) body index) →
+    IsListed e (all_ons m)) → (e : OnUnit × ℕ) →
+    IsListed e (all_placed_in (environment_for program head) body index) → IsOnOf m head e
+ons_are {program} m head valued labels body index level low at steps among e there =
+    let o = all_on_placed program m.called head (list_of m) (site_at m head) valued labels body index steps at e there in
+    let behind = o.behind in
+    record { is = o.is; placed = o.placed; low = omega (arith, low, behind); level = level; listed = among e there }
+
+pub main_on :
+    MarkedOnce → {program : Y.Program} (m : Main program) (e : OnUnit × ℕ) → IsListed e (ons_of m) →
+    IsOnOf m m.head e
+main_on once {program} m e there =
+    let low = entry_low (program_environment program) m.head.number program.procedures (procedures_index program) in
+    let level = level_of m in
+    ons_are m m.head false (labels_in (list_of m) ++ []) (list_of m) (start_of m) (omega (arith, level))
+    (omega (arith, low))
+    (list_placed once m [] 0) m.steps
+    (λ x h. listed_front x (ons_of m) (called_placed program m.called) h) e there
+
+-- those of one of the numbers are among those of what is called
+pub called_listed :
+    (program : Y.Program) (number : ℕ) (ns : List ℕ) → list_any (λ n. n == number) ns ≡ true → (e : OnUnit × ℕ) →
+    IsListed e (placed_if program (procedure_numbered number program.procedures)) →
+    IsListed e (called_placed program ns)
+called_listed program number [] h e there = absurd (cc h)
+called_listed program number (n ∷ ns) h e there =
+    by (n == number) refl h (λ g. called_listed program number ns g e there)
+  where
+    by :
+        (q : Bool) → (n == number) ≡ q → (q || list_any (λ i. i == number) ns) ≡ true →
+        (list_any (λ i. i == number) ns ≡ true → IsListed e (called_placed program ns)) →
+        IsListed e (called_placed program (n ∷ ns))
+    by true same f rest =
+        listed_front e (placed_if program (procedure_numbered n program.procedures)) (called_placed program ns)
+        (subst (λ i. IsListed e (placed_if program (procedure_numbered i program.procedures)))
+        (sym (eqb-true n number same)) there)
+    by false same f rest =
+        listed_back e (placed_if program (procedure_numbered n program.procedures)) (called_placed program ns) (rest f)
+
+-- no two of all of them are alike
+heads_if :
+    (program : Y.Program) (o : Option Y.Procedure) → heads_of (placed_if program o) ≡ units_if o
+heads_if program None = refl
+heads_if program (Some p) =
+    all_heads_in (environment_for program (head_of p.block)) (body_of p.block)
+    (body_for program (head_of p.block) (body_of p.block))
+
+called_heads : (program : Y.Program) (ns : List ℕ) → heads_of (called_placed program ns) ≡ called_units program ns
+called_heads program [] = refl
+called_heads program (n ∷ ns) =
+    two_heads (placed_if program (procedure_numbered n program.procedures)) (called_placed program ns)
+    (units_if (procedure_numbered n program.procedures)) (called_units program ns)
+    (heads_if program (procedure_numbered n program.procedures)) (called_heads program ns)
+
+pub all_apart : {program : Y.Program} (m : Main program) → are_apart (heads_of (all_ons m)) ≡ true
+all_apart {program} m =
+    ap are_apart (two_heads (ons_of m) (called_placed program m.called) (all_units_in (list_of m))
+    (called_units program m.called) (all_heads_in (environment_for program m.head) (list_of m) (start_of m))
+    (called_heads program m.called))
+    ∙ m.apart
+
+-- the program has each of the main procedure's at its place
+pub ons_placed : {program : Y.Program} (m : Main program) → ArePlaced (units_for m) (ons_of m)
+ons_placed {program} m =
+    placed_by (units_for m) (ons_of m)
+    (λ e h. listed_at e (all_ons m) (listed_front e (ons_of m) (called_placed program m.called) h))
+
+-- ---- the unit in force in the main procedure's block: one of those that it may have
+
+abbrev pub main_one :
+    {program : Y.Program} → (m : Main program) → (input : List ℕ) → (acts : ℕ) → (past : Past) → AreBy (ons_of m) past →
+    Activation
+main_one m input acts past known =
+    let a = main_alone m input acts past known in
+    record {
+      height = 1;
+      level = m.head.level;
+      parent = 0;
+      oncode = 0;
+      bindings = a.bindings;
+      units = a.units;
+    }
+
+abbrev pub InMain :
+    {program : Y.Program} → (m : Main program) → (input : List ℕ) → (acts : ℕ) → (past : Past) →
+    AreBy (ons_of m) past → Condition → Type 0
+InMain m input acts past known c =
+    IsSystem (force (main_past m input acts past).first.state.activations c)
+    ⊎ FoundOwn (ons_of m) (main_one m input acts past known) [] c
+
+pub in_main :
+    {program : Y.Program} (m : Main program) (input : List ℕ) (acts : ℕ) (past : Past) (known : AreBy (ons_of m) past)
+    (c : Condition) → InMain m input acts past known c
+in_main {program} m input acts past known c = by (force_over (ons_of m) one [] c a.own)
   where
     a : Alone m.head.level (ons_of m) (main_past m input acts past).first.state.activations
     a = main_alone m input acts past known
 
     one : Activation
-    one =
-        record {
-          height = 1;
-          level = m.head.level;
-          parent = 0;
-          oncode = 0;
-          bindings = a.bindings;
-          units = a.units;
-        }
+    one = main_one m input acts past known
 
-    by : IsSystem (force (one ∷ []) c) ⊎ Found (ons_of m) one c → InForce m input acts past c
+    by :
+        IsSystem (force (one ∷ []) c) ⊎ (FoundOwn (ons_of m) one [] c ⊎ (force (one ∷ []) c ≡ None)) →
+        InMain m input acts past known c
     by (inl system) = inl (subst (λ xs. IsSystem (force xs c)) (sym a.is) system)
-    by (inr n) =
-        inr (record {
-          unit = n.unit;
-          index = n.index;
-          listed = n.listed;
-          placed = unit_stands once m input acts (n.unit, n.index) n.listed;
-          condition = n.condition;
-          forced = subst (λ xs. Forced (force xs c) n.unit) (sym a.is) n.forced;
-        })
+    by (inr (inl n)) = inr n
+    by (inr (inr none)) = inl (subst (λ xs. IsSystem (force xs c)) (sym a.is) (subst IsSystem (sym none) tt))
 
 -- none for a condition for which the list has none
 pub none_system :
-    MarkedOnce → {program : Y.Program} (m : Main program) (input : List ℕ) (acts : ℕ) (past : Past) →
-    AreBy (ons_of m) past → (c : Condition) → not (has_unit c (list_of m)) ≡ true →
+    {program : Y.Program} (m : Main program) (input : List ℕ) (acts : ℕ) (past : Past) → AreBy (ons_of m) past →
+    (c : Condition) → not (has_unit c (list_of m)) ≡ true →
     IsSystem (force (main_past m input acts past).first.state.activations c)
-none_system once {program} m input acts past known c none = by (in_force once m input acts past known c)
+none_system {program} m input acts past known c none = by (in_main m input acts past known c)
   where
-    by : InForce m input acts past c → IsSystem (force (main_past m input acts past).first.state.activations c)
+    by :
+        InMain m input acts past known c → IsSystem (force (main_past m input acts past).first.state.activations c)
     by (inl system) = system
     by (inr n) =
         let listed = unit_listed (n.unit, n.index) (ons_of m) n.listed in

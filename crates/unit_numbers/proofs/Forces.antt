@@ -1,5 +1,5 @@
--- The units of the main procedure's one activation: each is the system's, or that of one of its ONs, so the one in
--- force for a condition is, too, or there is none.
+-- The units of one activation: each is the system's, or that of one of its block's ONs, so the one in force for a
+-- condition is, too, or it is in force below.
 use Rattle.std.proofs.Common.{◌≡◌, ◌⊎◌, inl, inr, ℕ, List, [], ◌∷◌, Option, Some, None, true, false, refl, sym, ap}
 use Rattle.std.proofs.Common.{◌∙◌, subst}
 use Rattle.std.specs.Prelude.{Bool, cond}
@@ -102,38 +102,35 @@ found_own ons (x ∷ us) c u h e = by (same_condition x.0 c) refl e (found_own o
 
 -- ---- the one in force
 
-pub record Forced (found : Option (Activation × OnUnit)) (x : T.OnUnit) : Type 0 where
-  pub by : Activation
-  pub own : by.height ≡ 1
-  pub is : found ≡ Some (by, BlockUnit (unit_of x))
-
-pub record Found (ons : List (T.OnUnit × ℕ)) (a : Activation) (c : Condition) : Type 0 where
+pub record FoundOwn (ons : List (T.OnUnit × ℕ)) (a : Activation) (as' : List Activation) (c : Condition) : Type 0 where
   pub unit : T.OnUnit
   pub index : ℕ
   pub listed : IsListed (unit, index) ons
   pub condition : unit.condition ≡ c
-  pub forced : Forced (force (a ∷ []) c) unit
+  pub is : force (a ∷ as') c ≡ Some (a, BlockUnit (unit_of unit))
 
-pub force_own :
-    (ons : List (T.OnUnit × ℕ)) (a : Activation) (c : Condition) → a.height ≡ 1 → AreOwn ons a.units →
-    IsSystem (force (a ∷ []) c) ⊎ Found ons a c
-force_own ons a c height own = by (unit_for a.units c) refl
+-- the system's, one of these, or what is in force below
+pub force_over :
+    (ons : List (T.OnUnit × ℕ)) (a : Activation) (as' : List Activation) (c : Condition) → AreOwn ons a.units →
+    IsSystem (force (a ∷ as') c) ⊎ (FoundOwn ons a as' c ⊎ (force (a ∷ as') c ≡ force as' c))
+force_over ons a as' c own = by (unit_for a.units c) refl
   where
-    by : (o : Option OnUnit) → unit_for a.units c ≡ o → IsSystem (force (a ∷ []) c) ⊎ Found ons a c
-    by None e = inl (subst (λ q. IsSystem (first_unit a q None)) (sym e) tt)
+    by :
+        (o : Option OnUnit) → unit_for a.units c ≡ o →
+        IsSystem (force (a ∷ as') c) ⊎ (FoundOwn ons a as' c ⊎ (force (a ∷ as') c ≡ force as' c))
+    by None e = inr (inr (ap (λ q. first_unit a q (force as' c)) e))
     by (Some u) e = of (found_own ons a.units c u own e)
       where
-        of : IsOwn ons c u → IsSystem (force (a ∷ []) c) ⊎ Found ons a c
-        of (inl system) = inl (subst (λ q. IsSystem (first_unit a q None)) (sym (e ∙ ap (λ v. Some v) system)) tt)
+        of :
+            IsOwn ons c u →
+            IsSystem (force (a ∷ as') c) ⊎ (FoundOwn ons a as' c ⊎ (force (a ∷ as') c ≡ force as' c))
+        of (inl system) =
+            inl (subst (λ q. IsSystem (first_unit a q (force as' c))) (sym (e ∙ ap (λ v. Some v) system)) tt)
         of (inr x) =
-            inr (record {
+            inr (inl (record {
               unit = x.unit;
               index = x.index;
               listed = x.listed;
               condition = x.condition;
-              forced = record {
-                by = a;
-                own = height;
-                is = ap (λ q. first_unit a q None) (e ∙ ap (λ v. Some v) x.is);
-              };
-            })
+              is = ap (λ q. first_unit a q (force as' c)) (e ∙ ap (λ v. Some v) x.is);
+            }))

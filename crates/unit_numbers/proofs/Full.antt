@@ -28,9 +28,9 @@ use Rattle.number_headlines.proofs.Mains.{result_of}
 use Rattle.number_headlines.proofs.Running.{free_among, table_later}
 use Rattle.number_headlines.proofs.Tables.{all_known, block_plain}
 use Rattle.unit_numbers.proofs.Callees.{callee_of}
-use Rattle.unit_numbers.proofs.Named.{Moment, entered_at, inner_set}
+use Rattle.unit_numbers.proofs.Named.{Moment, entered_at}
 use Rattle.unit_numbers.proofs.Homes.{Home, world_of}
-use Rattle.unit_numbers.proofs.Inner.{Inner}
+use Rattle.unit_numbers.proofs.Inner.{Inner, inner_set}
 use Rattle.unit_numbers.proofs.Mains.{Main}
 use Rattle.unit_numbers.proofs.Scenes.{Part, block_of}
 

@@ -34,8 +34,8 @@ use Rattle.phase_runs.proofs.Units.{past_begun}
 use Rattle.unit_numbers.proofs.Arrays.{past_array, past_narrow, past_number}
 use Rattle.unit_numbers.proofs.Established.{ons_placed}
 use Rattle.unit_numbers.proofs.Mains.{Main, block_for, free, layer_behind_all, level_of, list_of, main_array}
-use Rattle.unit_numbers.proofs.Mains.{main_begun, main_narrow, own_narrow_known}
-use Rattle.unit_numbers.proofs.Mains.{main_layer, main_number, main_scope, own_array_known, own_known}
+use Rattle.unit_numbers.proofs.Mains.{main_begun, main_narrow}
+use Rattle.unit_numbers.proofs.Mains.{main_layer, main_number, main_scope, own_known}
 use Rattle.unit_numbers.proofs.Mains.{ons_of, own_words, surroundings_for}
 use Rattle.unit_numbers.proofs.Outer.{main_top}
 use Rattle.unit_numbers.proofs.Past.{main_past, past_like, past_living, past_same}
@@ -84,7 +84,7 @@ pub record Layered (φ : Layer) (φs ls : List Layer) : Type 0 where
   pub words : layer.words ≡ φ.words
   pub waits : layer.waits ≡ φ.waits
 
-past_layered :
+pub past_layered :
     (past : Past) (p : Point) (φ : Layer) (φs : List Layer) → p.control.layers ≡ φ ∷ φs →
     Layered φ φs (past_point past p).control.layers
 past_layered [] p φ φs e =
@@ -220,29 +220,3 @@ home_told {program} {m} {h} is waits =
           subst (λ ls. upper_top image_parts ls
           ≡ frame_under image_parts ls + frame_end image_parts program m.head.number m.head.level) free.newest is.ends;
     }
-
--- ---- its variables are of level 0
-
-pub low_spot :
-    {program : Y.Program} (m : Main program) (h : Home) (x : Spot) → is_known (main_scope m false) x ≡ true →
-    x.level ≤ 0
-low_spot m h x is =
-    let at = (own_known m h.input h.acts x is).level in
-    let level = level_of m in
-    omega (arith, at, level)
-
-pub low_array :
-    {program : Y.Program} (m : Main program) (h : Home) (x : Spot) → is_array_known (main_scope m false) x ≡ true →
-    x.level ≤ 0
-low_array m h x is =
-    let at = (own_array_known m h.input h.acts x is).level in
-    let level = level_of m in
-    omega (arith, at, level)
-
-pub low_narrow :
-    {program : Y.Program} (m : Main program) (h : Home) (x : Spot) → is_narrow_known (main_scope m false) x ≡ true →
-    x.level ≤ 0
-low_narrow m h x is =
-    let at = (own_narrow_known m h.input h.acts x is).level in
-    let level = level_of m in
-    omega (arith, at, level)

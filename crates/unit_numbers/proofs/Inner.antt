@@ -1,19 +1,58 @@
 -- What a call finds: a procedure or a function of the class, which a block around the calling one declares.
-use Rattle.std.proofs.Common.{◌≡◌, ℕ, suc, ◌≤◌, List, [], ◌∷◌, length, Option, None, Some, Bool, true, false, refl}
-use Rattle.std.proofs.Common.{sym, ap, ◌∙◌, subst}
-use Rattle.std.specs.Prelude.{◌&&◌, ◌==◌, ◌||◌, cond, nat_le}
+use Rattle.std.proofs.Common.{◌≡◌, ℕ, suc, ◌≤◌, List, [], ◌∷◌, ◌++◌, length, Option, None, Some, Bool, true}
+use Rattle.std.proofs.Common.{false, refl, sym, ap, ◌∙◌, subst, arith}
+use Rattle.std.specs.Prelude.{◌&&◌, ◌==◌, ◌||◌, cond, nat_le, not}
 use Rattle.std.specs.List.{list_any}
 use Rattle.std.proofs.lemmas.Bool.{and_parts, eqb-true, leb-true}
 use Rattle.std.proofs.lemmas.Option.{same_Some}
 use Rattle.pli_typing.specs.TypedTree as Y
 use Rattle.pli_meaning.specs.DeclaredShapes.{head_of, procedure_numbered}
-use Rattle.program_places.specs.Programs.{IsProcedure, environment_for}
+use Rattle.pli_meaning.specs.Executing.{labels_in}
+use Rattle.pli_coding.specs.Environments.{none_taken}
+use Rattle.pli_coding.specs.Registers.{held_registers}
+use Rattle.pli_coding.specs.Statements.{block_held, block_takes}
+use Rattle.code_marks.specs.CodeMarks.{MarkedOnce}
+use Rattle.program_places.specs.Programs.{IsProcedure, body_for, environment_for, procedure_for, procedures_index}
+use Rattle.program_places.specs.Programs.{program_environment}
+use Rattle.program_places.proofs.Found.{known}
+use Rattle.program_places.proofs.Procedures.{body_placed}
 use Rattle.number_runs.specs.Numbers.{has_none}
-use Rattle.number_headlines.specs.Programs.{body_of, has_result, is_callable, is_declared_if, is_valued, stand_alike}
+use Rattle.number_runs.specs.Statements.{statements_need, statements_set}
+use Rattle.number_runs.proofs.Takes.{Sets}
+use Rattle.number_headlines.specs.Programs.{body_of, has_result, is_callable, is_declared_if, is_valued, most_waiting}
+use Rattle.number_headlines.specs.Programs.{stand_alike}
 use Rattle.number_headlines.proofs.Mains.{procedure_is, result_of}
-use Rattle.unit_numbers.specs.Calls.{are_called, is_body_in, is_called_if}
-use Rattle.unit_numbers.proofs.Mains.{Main, list_of}
-use Rattle.unit_numbers.proofs.Units.{Fit, fit_is}
+use Rattle.number_headlines.proofs.Tables.{block_plain}
+use Rattle.unit_runs.specs.Establishing.{OnUnit}
+use Rattle.phase_runs.specs.Units.{IsListed}
+use Rattle.unit_numbers.specs.Called.{are_called, is_called_if, is_list_of}
+use Rattle.unit_numbers.specs.Steps.{are_steps}
+use Rattle.unit_numbers.proofs.Established.{IsOnOf, called_listed, entry_low, ons_are}
+use Rattle.unit_numbers.proofs.Mains.{Main, called_placed, list_of, main_scope, ons_of, placed_if}
+use Rattle.unit_numbers.proofs.Places.{all_placed_in, listed_back}
+use Rattle.unit_numbers.proofs.Takes.{behind_variables, steps_taken}
+
+-- its list is of the class, with what its temporaries and its loops take
+pub record ListFit (program : Y.Program) (ns : List ℕ) (all : Y.Stmts) (head : Y.BlockHead) (valued : Bool)
+    (body : Y.Stmts) : Type 0
+  where
+    pub steps : are_steps program ns head all valued (labels_in body ++ []) body ≡ true
+    pub fits : statements_need body ≤ held_registers
+    pub waiting : statements_set body ≤ most_waiting
+
+list_fit :
+    (program : Y.Program) (ns : List ℕ) (all : Y.Stmts) (head : Y.BlockHead) (valued : Bool) (body : Y.Stmts) →
+    is_list_of program ns all head valued body ≡ true → ListFit program ns all head valued body
+list_fit program ns all head valued body h =
+    let fits = nat_le (statements_need body) held_registers in
+    let waiting = nat_le (statements_set body) most_waiting in
+    let a = and_parts (are_steps program ns head all valued (labels_in body ++ []) body) (fits && waiting) h in
+    let b = and_parts fits waiting a.1 in
+    record {
+      steps = a.0;
+      fits = leb-true (statements_need body) held_registers b.0;
+      waiting = leb-true (statements_set body) most_waiting b.1;
+    }
 
 pub record Inner {program : Y.Program} (m : Main program) (caller : Y.BlockHead) (valued : Bool) (level number : ℕ)
     : Type 0
@@ -25,7 +64,8 @@ pub record Inner {program : Y.Program} (m : Main program) (caller : Y.BlockHead)
     pub inside : head.level ≡ suc level
     pub around_it : level ≤ caller.level
     pub alike : stand_alike (environment_for program caller) (environment_for program head) level ≡ true
-    pub fit : Fit program m.called (list_of m) head false valued body
+    pub listed : list_any (λ n. n == number) m.called ≡ true
+    pub fit : ListFit program m.called (list_of m) head valued body
 
 number_found :
     (number : ℕ) (p : Y.Procedure) (ps : List Y.Procedure) → procedure_numbered number ps ≡ Some p →
@@ -102,10 +142,11 @@ inner_is {program} m caller valued level number h =
         ((head.level == suc level) && (nat_le level caller.level && alike)) a.1 in
         let c = and_parts (head.level == suc level) (nat_le level caller.level && alike) b.1 in
         let d = and_parts (nat_le level caller.level) alike c.1 in
-        let fits = is_body_in program m.called (list_of m) head false (is_valued p.result) body in
-        let i = and_parts (has_none p.parameters) fits g in
-        let own = subst (λ v. is_body_in program m.called (list_of m) head false v body ≡ true)
-        (valued_is valued p.result b.0) i.1 in
+        let fits = is_list_of program m.called (list_of m) head (is_valued p.result) body in
+        let i = and_parts (has_none p.parameters) (not ((head_of p.block).level == 0) && fits) g in
+        let inner = and_parts (not ((head_of p.block).level == 0)) fits i.1 in
+        let own = subst (λ v. is_list_of program m.called (list_of m) head v body ≡ true)
+        (valued_is valued p.result b.0) inner.1 in
         let n = number_found number p program.procedures e in
         record {
           head = head;
@@ -117,5 +158,53 @@ inner_is {program} m caller valued level number h =
           inside = eqb-true head.level (suc level) c.0;
           around_it = leb-true level caller.level d.0;
           alike = d.1;
-          fit = fit_is program m.called (list_of m) head false valued body own;
+          listed = parts.0;
+          fit = list_fit program m.called (list_of m) head valued body own;
         }
+
+-- ---- its list
+
+-- what its temporaries take
+inner_taken :
+    {program : Y.Program} (m : Main program) {caller : Y.BlockHead} {valued : Bool} {level number : ℕ}
+    (i : Inner m caller valued level number) →
+    Sets (statements_need i.body) (statements_set i.body) none_taken (block_takes program i.head.number i.body)
+inner_taken {program} m {valued = valued} i =
+    let plain = block_plain program.variables i.head.number m.plain in
+    behind_variables (main_scope m false) program i.head.number (statements_need i.body) (statements_set i.body) i.body
+    plain.plain
+    (steps_taken program m.called i.head (list_of m) valued (labels_in i.body ++ []) i.body i.fit.steps i.fit.fits)
+
+pub inner_set :
+    {program : Y.Program} (m : Main program) {caller : Y.BlockHead} {valued : Bool} {level number : ℕ}
+    (i : Inner m caller valued level number) → (procedure_for program i.head i.body).words ≡ statements_set i.body
+inner_set m i = let n = (inner_taken m i).words in omega (arith, n)
+
+-- it saves as many registers as they take
+pub inner_held :
+    {program : Y.Program} (m : Main program) {caller : Y.BlockHead} {valued : Bool} {level number : ℕ}
+    (i : Inner m caller valued level number) →
+    statements_need i.body ≤ block_held (environment_for program i.head) i.head.number i.body
+inner_held m i =
+    let n = (inner_taken m i).registers in
+    let fits = i.fit.fits in
+    omega (arith, n, fits)
+
+-- its ONs are of the program
+pub inner_ons :
+    MarkedOnce → {program : Y.Program} (m : Main program) {caller : Y.BlockHead} {valued : Bool} {level number : ℕ}
+    (i : Inner m caller valued level number) (e : OnUnit × ℕ) →
+    IsListed e (all_placed_in (environment_for program i.head) i.body (body_for program i.head i.body)) →
+    IsOnOf m i.head e
+inner_ons once {program} m {valued = valued} {number = number} i e there =
+    let low = entry_low (program_environment program) i.head.number program.procedures (procedures_index program) in
+    let found = subst (λ n. procedure_numbered n program.procedures
+    ≡ Some (record { block = Y.BlockOf i.head i.body; parameters = []; result = result_of valued })) i.numbered i.is in
+    ons_are m i.head valued (labels_in i.body ++ []) i.body (body_for program i.head i.body)
+    (known program i.head i.body (result_of valued) m.loadable.well_formed i.is).level (omega (arith, low))
+    (body_placed once program i.head i.body (result_of valued) m.loadable i.is) i.fit.steps
+    (λ x h.
+    listed_back x (ons_of m) (called_placed program m.called)
+    (called_listed program number m.called i.listed x
+    (subst (λ o. IsListed x (placed_if program o)) (sym found) h)))
+    e there

@@ -23,7 +23,7 @@ use Rattle.number_headlines.proofs.Mains.{made_for}
 use Rattle.number_headlines.proofs.Tables.{all_known, has_start}
 use Rattle.unit_numbers.specs.Headlines.{IsUnitProgram}
 use Rattle.unit_numbers.specs.Programs.{has_unit_main}
-use Rattle.unit_numbers.proofs.Bodies.{main_ends}
+use Rattle.unit_numbers.proofs.MainBodies.{main_ends}
 use Rattle.unit_numbers.proofs.Mains.{Main, main_all, main_for, main_is, main_room, placed, run_for, start_for}
 use Rattle.unit_numbers.proofs.Mains.{surroundings_for, units_for}
 

@@ -13,6 +13,7 @@ pub mod Routines
 pub mod Divides
 pub mod NestedJumps
 pub mod Homes
+pub mod Hosts
 pub mod Scenes
 pub mod Inner
 pub mod Callees
@@ -22,7 +23,10 @@ pub mod Entered
 pub mod Full
 pub mod Calls
 pub mod Raises
+pub mod Visited
+pub mod Listing
 pub mod Bodies
+pub mod MainBodies
 pub mod Kept
 pub mod Rows
 pub mod GuardRows
@@ -38,3 +42,4 @@ pub mod RescueRows
 pub mod HaltRows
 pub mod TollRows
 pub mod PleadRows
+pub mod LodgeRows

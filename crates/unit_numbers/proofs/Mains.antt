@@ -1,5 +1,5 @@
 -- The main procedure of a program of the class where it begins: its variables are made, and there is room for a unit.
-use Rattle.std.proofs.Common.{◌≡◌, ℕ, ◌+◌, ◌≤◌, List, [], ◌∷◌, ◌++◌, None, true, false}
+use Rattle.std.proofs.Common.{◌≡◌, ℕ, ◌+◌, ◌≤◌, List, [], ◌∷◌, ◌++◌, None, Option, Some, true, false}
 use Rattle.std.proofs.Common.{length, refl, sym, ap, ◌∙◌, subst, arith}
 use Rattle.std.specs.Prelude.{◌&&◌, Bool, nat_le}
 use Rattle.std.specs.List.{list_any}
@@ -7,7 +7,8 @@ use Rattle.std.proofs.lemmas.Bool.{and_parts, leb-true}
 use Rattle.pli_language.specs.declared.condition.Condition.{Condition}
 use Rattle.pli_typing.specs.TypedTree as Y
 use Rattle.pli_meaning.specs.BasicValues.{VariableName}
-use Rattle.pli_meaning.specs.DeclaredShapes.{declared_variable, head_of, variables_of_block}
+use Rattle.pli_meaning.specs.DeclaredShapes.{declared_variable, head_of, procedure_numbered}
+use Rattle.pli_meaning.specs.DeclaredShapes.{variables_of_block}
 use Rattle.pli_meaning.specs.Executing.{labels_in}
 use Rattle.pli_meaning.specs.Making.{with_binding}
 use Rattle.pli_meaning.specs.StorageState.{Activation, Binding, OnUnit}
@@ -52,8 +53,10 @@ use Rattle.number_headlines.proofs.Mains.{made_for, procedure_is, spare}
 use Rattle.number_headlines.proofs.Begins.{block_begins}
 use Rattle.number_headlines.proofs.Tables.{all_known, block_plain, has_table}
 use Rattle.unit_runs.specs.Establishing as T
-use Rattle.unit_numbers.specs.Programs.{are_apart, are_steps, has_unit_main, is_unit_body}
-use Rattle.unit_numbers.specs.Calls.{all_units_in, are_called, called_ones, scope_in}
+use Rattle.unit_numbers.specs.Called.{are_called, called_ones, called_units}
+use Rattle.unit_numbers.specs.Calls.{all_units_in, scope_in}
+use Rattle.unit_numbers.specs.Programs.{are_apart, has_unit_main, is_unit_body}
+use Rattle.unit_numbers.specs.Steps.{are_steps}
 use Rattle.unit_numbers.proofs.Forces.{AreOwn}
 use Rattle.unit_numbers.proofs.Places.{all_placed_in, places_of}
 use Rattle.unit_numbers.proofs.Takes.{behind_variables, steps_taken}
@@ -69,8 +72,8 @@ pub record Main (program : Y.Program) : Type 0 where
   pub memory : FitsMemory (picture_of parts program)
   -- the numbers of the procedures that it calls, and that they call
   pub called : List ℕ
-  pub steps : are_steps program called head body (labels_in body ++ []) body ≡ true
-  pub apart : are_apart (all_units_in body) ≡ true
+  pub steps : are_steps program called head body false (labels_in body ++ []) body ≡ true
+  pub apart : are_apart (all_units_in body ++ called_units program called) ≡ true
   pub fits : statements_need body ≤ held_registers
   pub waiting : statements_set body ≤ most_waiting
   pub calls : are_called program body called called ≡ true
@@ -82,6 +85,22 @@ list_of m = m.body
 -- its ONs, where they stand
 abbrev pub ons_of : {program : Y.Program} → Main program → List (T.OnUnit × ℕ)
 ons_of {program} m = all_placed_in (environment_for program m.head) m.body (body_for program m.head m.body)
+
+-- those of what is called
+abbrev pub placed_if : Y.Program → Option Y.Procedure → List (T.OnUnit × ℕ)
+placed_if program None = []
+placed_if program (Some p) =
+    all_placed_in (environment_for program (head_of p.block)) (body_of p.block)
+    (body_for program (head_of p.block) (body_of p.block))
+
+abbrev pub called_placed : Y.Program → List ℕ → List (T.OnUnit × ℕ)
+called_placed program [] = []
+called_placed program (n ∷ ns) =
+    placed_if program (procedure_numbered n program.procedures) ++ called_placed program ns
+
+-- all that the program has
+abbrev pub all_ons : {program : Y.Program} → Main program → List (T.OnUnit × ℕ)
+all_ons {program} m = ons_of m ++ called_placed program m.called
 
 -- as it is placed
 abbrev pub placed : {program : Y.Program} → Main program → Placed.Main
@@ -102,9 +121,10 @@ main_is program (p ∷ ps) e plain load memory h =
     let all = are_called program body called called in
     let a = and_parts (has_none p.parameters) (has_result false p.result && inner) h in
     let b = and_parts (has_result false p.result) inner a.1 in
-    let c = and_parts (are_steps program called head body (labels_in body ++ []) body)
-    (are_apart (all_units_in body) && (fits && (waiting && all))) b.1 in
-    let d = and_parts (are_apart (all_units_in body)) (fits && (waiting && all)) c.1 in
+    let apart = are_apart (all_units_in body ++ called_units program called) in
+    let c = and_parts (are_steps program called head body false (labels_in body ++ []) body)
+    (apart && (fits && (waiting && all))) b.1 in
+    let d = and_parts apart (fits && (waiting && all)) c.1 in
     let f = and_parts fits (waiting && all) d.1 in
     let g = and_parts waiting all f.1 in
     record {
@@ -125,9 +145,9 @@ main_is program (p ∷ ps) e plain load memory h =
 
 -- ---- in a run
 
--- with the units of its main procedure
+-- with its units
 abbrev pub units_for : {program : Y.Program} → Main program → UnitPlaces
-units_for m = places_of (ons_of m)
+units_for m = places_of (all_ons m)
 
 abbrev pub run_for : {program : Y.Program} → Main program → (input : List ℕ) → (acts : ℕ) → Run
 run_for m input acts = record { units = units_for m; input = input; acts = acts; serials = most_words }
@@ -150,7 +170,7 @@ list_takes :
     {program : Y.Program} (m : Main program) →
     Sets (statements_need (list_of m)) (statements_set (list_of m)) none_taken (stmts_take none_taken m.body)
 list_takes {program} m =
-    steps_taken program m.called m.head (list_of m) (labels_in m.body ++ []) (list_of m) m.steps m.fits
+    steps_taken program m.called m.head (list_of m) false (labels_in m.body ++ []) (list_of m) m.steps m.fits
 
 -- the statements that it may have, as a scope
 abbrev pub main_scope : {program : Y.Program} → Main program → (writes : Bool) → Scope

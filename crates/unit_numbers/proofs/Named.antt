@@ -35,9 +35,7 @@ use Rattle.nested_calls.proofs.NestedVariables.{function_known, function_nested,
 use Rattle.nested_calls.proofs.NestedVariables.{procedure_nested, procedure_number}
 use Rattle.number_runs.specs.Arrays.{bounds_if, is_array_if}
 use Rattle.number_runs.specs.Numbers.{Scope, is_array_known, is_known, is_place, is_plain_if, is_narrow_known}
-use Rattle.number_runs.specs.Statements.{statements_set}
 use Rattle.number_runs.specs.Variables.{HasWords, HaveRoom, bytes_of, words_in}
-use Rattle.number_runs.proofs.BlocksTaken.{plain_known, words_set}
 use Rattle.number_runs.proofs.Words.{all_words, function_array, function_word, own_array, own_word, room_fewer}
 use Rattle.number_runs.proofs.Words.{function_narrow, own_narrow}
 use Rattle.number_headlines.specs.Programs.{places_to}
@@ -49,7 +47,7 @@ use Rattle.number_headlines.proofs.Tables.{all_known, block_plain}
 use Rattle.unit_numbers.specs.Calls.{scope_in}
 use Rattle.unit_numbers.proofs.Callees.{Called, called_block, callee_of}
 use Rattle.unit_numbers.proofs.Homes.{Home, world_of}
-use Rattle.unit_numbers.proofs.Inner.{Inner}
+use Rattle.unit_numbers.proofs.Inner.{Inner, inner_set}
 use Rattle.unit_numbers.proofs.Mains.{Main, list_of}
 use Rattle.unit_numbers.proofs.Scenes.{IsAt, Part, block_of}
 use Rattle.scalar_runs.specs.Scalars.{IsScalar}
@@ -88,17 +86,9 @@ bare_block {program} m h valued more a =
 abbrev pub called_scope :
     {program : Y.Program} → (m : Main program) → {caller : Y.BlockHead} → {valued : Bool} → {level number : ℕ} →
     Inner m caller valued level number → Scope
-called_scope {program} m i = scope_in program m.called (list_of m) i.head false i.fit.writes
+called_scope {program} m i = scope_in program m.called (list_of m) i.head false false
 
 -- ---- its words
-
-pub inner_set :
-    {program : Y.Program} (m : Main program) {caller : Y.BlockHead} {valued : Bool} {level number : ℕ}
-    (i : Inner m caller valued level number) → (procedure_for program i.head i.body).words ≡ statements_set i.body
-inner_set {program} m {valued = valued} i =
-    let plain = block_plain program.variables i.head.number m.plain in
-    words_set (called_scope m i) valued (environment_for program i.head) i.head.number i.body
-    (plain_known (variables_of_block program i.head.number) plain.plain) i.fit.statements i.fit.fits
 
 -- they don't pass the limit on what is AUTOMATIC
 abbrev pub DontPass : {program : Y.Program} → Block → {m : Main program} → {caller : Y.BlockHead} → {valued : Bool} →

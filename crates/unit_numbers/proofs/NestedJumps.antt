@@ -26,7 +26,7 @@ use Rattle.block_runs.proofs.CallStatements.{comes_map}
 use Rattle.block_runs.proofs.PointActs.{act_comes}
 use Rattle.program_runs.specs.Calls.{AreMade, Callee, body_index, left_over}
 use Rattle.program_runs.specs.Procedures.{block_of, beginning_for}
-use Rattle.program_runs.specs.Statements.{Block, DoesWith, EachDoes, IsAmong, IsBegun, size_with}
+use Rattle.program_runs.specs.Statements.{Block, DoesWith, IsAmong, IsBegun, size_with}
 use Rattle.program_runs.specs.Statements.{statement_aims}
 use Rattle.program_runs.proofs.Statements.{acted_among, statement_closed}
 use Rattle.expression_runs.specs.Laws as L
@@ -34,7 +34,7 @@ use Rattle.expression_runs.specs.Values.{Setting, behind, in_registers, number_a
 use Rattle.expression_runs.proofs.Words.{number_closed}
 use Rattle.function_runs.specs.FunctionCalls.{called_from}
 use Rattle.function_runs.specs.Functions.{function_beginning, function_entry}
-use Rattle.unit_runs.proofs.InnerLists.{each_list}
+use Rattle.unit_runs.specs.InnerLists.{ListDoes}
 use Rattle.jump_runs.specs.Calls.{block_in}
 use Rattle.jump_runs.specs.Exits.{hand_aims}
 use Rattle.jump_runs.specs.Functions.{FunctionDoes, IsFunctionList, function_in}
@@ -107,8 +107,7 @@ pub nested_jump_call_does :
     ((p : Point) (numbers : ℕ → ℕ) → IsAmong k numbers p →
     AreMade k.call.surroundings k.call.code c p numbers) →
     ((p : Point) (numbers : ℕ → ℕ) → IsAmong k numbers p → IsBegun (block_in k labels c p numbers) →
-    EachDoes (block_in k labels c p numbers) (labels_in c.procedure.body ++ []) c.procedure.body (body_index c)
-    left_over) → IsBegun k → DoesWith words k labels (call_at c level line) index left'
+    ListDoes (block_in k labels c p numbers) c.procedure.body (body_index c) left_over) → IsBegun k → DoesWith words k labels (call_at c level line) index left'
 unfolding M.statement ◌>>=◌ ◌>>◌
 nested_jump_call_does words k labels c level line index left' more h few made' each b p numbers credits wanted f o paid
     there =
@@ -150,9 +149,7 @@ nested_jump_call_does words k labels c level line index left' more h few made' e
     (sym (called_means h o'))
     (call_goes words k labels c acts level line index left' more h p' numbers wanted g is (omega arith)
     (list_exits z is acts (omega arith)
-    (λ list'.
-    each_list (block_in k labels c p' numbers) c.procedure.body (body_index c) left_over list'
-    h.callee.labels (each p' numbers o' list'.begun)))
+    (λ list'. each p' numbers o' list'.begun))
     (back_of one (given' ++ call) l) (size ∙ n0) at))))
 
 -- ---- a call in an expression

@@ -56,7 +56,7 @@ top_same :
 top_same xs [] = refl
 top_same xs (φ ∷ φs) = refl
 
-height_same :
+pub height_same :
     (us : List (Condition × OnUnit)) (as' : List Activation) (level : ℕ) →
     height_of (ancestor (newest_units us as') (newest_height (newest_units us as')) level)
     ≡ height_of (ancestor as' (newest_height as') level)

@@ -1,11 +1,10 @@
 -- The units of a list and where they stand: no two are alike, so each stands at one place.
 use Rattle.std.proofs.Common.{◌≡◌, ◌⊎◌, inl, inr, ℕ, zero, suc, ◌+◌, ◌*◌, ◌≤◌, List, [], ◌∷◌, ◌++◌}
-use Rattle.std.proofs.Common.{Some, true, false, refl, sym, ap, ◌∙◌, subst, arith}
+use Rattle.std.proofs.Common.{Some, true, refl, sym, ap, ◌∙◌, subst, arith}
 use Rattle.std.specs.Prelude.{◌&&◌, ◌||◌, ◌==◌, Bool, not}
 use Rattle.std.specs.List.{list_any}
 use Rattle.std.proofs.lemmas.Bool.{and_parts, eq-eqb, or_left, or_right}
 use Rattle.std.proofs.lemmas.Option.{same_Some}
-use Rattle.pli_language.specs.declared.condition.Condition.{Condition}
 use Rattle.pli_typing.specs.TypedTree as Y
 use Rattle.pli_meaning.specs.Control.{Label}
 use Rattle.pli_meaning.specs.DeclaredShapes.{head_of}
@@ -23,8 +22,9 @@ use Rattle.number_runs.specs.Knowledge.{AreStanding, Standing}
 use Rattle.number_runs.specs.Statements.{is_line}
 use Rattle.unit_runs.specs.Establishing.{OnUnit, on_of, unit_index, unit_of}
 use Rattle.phase_runs.specs.Units.{ArePlaced, IsListed}
-use Rattle.unit_numbers.specs.Calls.{all_units_in, has_unit, units_in}
-use Rattle.unit_numbers.specs.Programs.{are_apart, are_steps, has_alike, is_alike, is_step, is_step_test}
+use Rattle.unit_numbers.specs.Calls.{all_units_in, units_in}
+use Rattle.unit_numbers.specs.Programs.{are_apart, has_alike, is_alike}
+use Rattle.unit_numbers.specs.Steps.{are_steps, is_step, is_step_test}
 use Rattle.unit_numbers.specs.Units.{is_unit}
 use Rattle.unit_numbers.proofs.Forces.{condition_same}
 use Rattle.unit_numbers.proofs.Inside.{first_stands, group_stands, met_stands, one_stands, rest_stands, second_stands}
@@ -63,7 +63,7 @@ heads_both : (xs ys : List (OnUnit × ℕ)) → heads_of (xs ++ ys) ≡ heads_of
 heads_both [] ys = refl
 heads_both (x ∷ xs) ys = ap (λ us. x.0 ∷ us) (heads_both xs ys)
 
-two_heads :
+pub two_heads :
     (xs ys : List (OnUnit × ℕ)) (us vs : List OnUnit) → heads_of xs ≡ us → heads_of ys ≡ vs →
     heads_of (xs ++ ys) ≡ us ++ vs
 two_heads xs ys us vs e f =
@@ -124,7 +124,7 @@ pub listed_back : (e : OnUnit × ℕ) (xs ys : List (OnUnit × ℕ)) → IsListe
 listed_back e [] ys h = h
 listed_back e (x ∷ xs) ys h = inr (listed_back e xs ys h)
 
-listed_either :
+pub listed_either :
     (e : OnUnit × ℕ) (xs ys : List (OnUnit × ℕ)) → IsListed e (xs ++ ys) → IsListed e xs ⊎ IsListed e ys
 listed_either e [] ys h = inr h
 listed_either e (x ∷ xs) ys (inl h) = inl (inl h)
@@ -233,23 +233,24 @@ two_placed {program} {ns} {main} {all} {k} start xs ys e one other h = by (liste
 
 mutual
   pub on_placed :
-      (program : Y.Program) (ns : List ℕ) (main : Y.BlockHead) (all : Y.Stmts) (k : Block) (labels : List Label)
-      (stmt : Y.Stmt) (index : ℕ) → is_step program ns main all labels stmt ≡ true → Standing k stmt index →
+      (program : Y.Program) (ns : List ℕ) (main : Y.BlockHead) (all : Y.Stmts) (k : Block) (valued : Bool)
+      (labels : List Label)
+      (stmt : Y.Stmt) (index : ℕ) → is_step program ns main all valued labels stmt ≡ true → Standing k stmt index →
       (e : OnUnit × ℕ) → IsListed e (placed_in k.environment stmt index) → IsPlaced program ns main all k index e
-  on_placed program ns main all k labels (Y.OnUnit condition (Y.BlockOf head body) line) index is at e (inl h) =
+  on_placed program ns main all k valued labels (Y.OnUnit condition (Y.BlockOf head body) line) index is at e (inl h) =
       subst (IsPlaced program ns main all k index) h (record { is = is; placed = at; behind = omega arith })
-  on_placed program ns main all k labels (Y.OnUnit condition (Y.BlockOf head body) line) index is at e (inr h) =
+  on_placed program ns main all k valued labels (Y.OnUnit condition (Y.BlockOf head body) line) index is at e (inr h) =
       absurd h
-  on_placed program ns main all k labels (Y.If condition unit line) index is at e h =
-      let inner = is_step program ns main all labels unit in
+  on_placed program ns main all k valued labels (Y.If condition unit line) index is at e h =
+      let inner = is_step program ns main all valued labels unit in
       let a = and_parts (is_line line) (is_step_test program ns main all condition && inner) is in
       let b = and_parts (is_step_test program ns main all condition) inner a.1 in
       placed_from index (omega arith)
-      (on_placed program ns main all k labels unit (chosen_at k.environment condition line index) b.1
+      (on_placed program ns main all k valued labels unit (chosen_at k.environment condition line index) b.1
       (met_stands k condition unit line index at) e h)
-  on_placed program ns main all k labels (Y.IfElse condition unit otherwise line) index is at e h =
-      let first = is_step program ns main all labels unit in
-      let second = is_step program ns main all labels otherwise in
+  on_placed program ns main all k valued labels (Y.IfElse condition unit otherwise line) index is at e h =
+      let first = is_step program ns main all valued labels unit in
+      let second = is_step program ns main all valued labels otherwise in
       let a = and_parts (is_line line) (is_step_test program ns main all condition && (first && second)) is in
       let b = and_parts (is_step_test program ns main all condition) (first && second) a.1 in
       let c = and_parts first second b.1 in
@@ -257,59 +258,60 @@ mutual
       let behind = chosen + size_of (stmt_code k.environment none_taken unit) + 2 in
       placed_from index (omega arith)
       (two_placed chosen (placed_in k.environment unit chosen) (placed_in k.environment otherwise behind) e
-      (λ q. on_placed program ns main all k labels unit chosen c.0
+      (λ q. on_placed program ns main all k valued labels unit chosen c.0
       (first_stands k condition unit otherwise line index at) e q)
       (λ q. placed_from chosen (omega arith)
-      (on_placed program ns main all k labels otherwise behind c.1
+      (on_placed program ns main all k valued labels otherwise behind c.1
       (second_stands k condition unit otherwise line index at) e q)) h)
-  on_placed program ns main all k labels (Y.Do body line) index is at e h =
-      let inner = are_steps program ns main all (labels_in body ++ labels) body in
+  on_placed program ns main all k valued labels (Y.Do body line) index is at e h =
+      let inner = are_steps program ns main all valued (labels_in body ++ labels) body in
       let a = and_parts (is_line line) inner is in
       placed_from index (omega arith)
-      (all_on_placed program ns main all k (labels_in body ++ labels) body (index + size_of (act_code line)) a.1
+      (all_on_placed program ns main all k valued (labels_in body ++ labels) body (index + size_of (act_code line)) a.1
       (group_stands k body line index at) e h)
-  on_placed program ns main all k labels (Y.DoWhile condition body line) index is at e h =
-      let inner = are_steps program ns main all (labels_in body ++ labels) body in
+  on_placed program ns main all k valued labels (Y.DoWhile condition body line) index is at e h =
+      let inner = are_steps program ns main all valued (labels_in body ++ labels) body in
       let a = and_parts (is_line line) (is_step_test program ns main all condition && inner) is in
       let b = and_parts (is_step_test program ns main all condition) inner a.1 in
       placed_from index (omega arith)
-      (all_on_placed program ns main all k (labels_in body ++ labels) body
+      (all_on_placed program ns main all k valued (labels_in body ++ labels) body
       (chosen_at k.environment condition line (index + size_of (act_code line))) b.1
       (turns_stand k condition body line index at) e h)
-  on_placed program ns main all k labels (Y.Null line) index is at e h = absurd h
-  on_placed program ns main all k labels (Y.Assign target source line) index is at e h = absurd h
-  on_placed program ns main all k labels (Y.CallProcedure call line) index is at e h = absurd h
-  on_placed program ns main all k labels (Y.Return line) index is at e h = absurd h
-  on_placed program ns main all k labels (Y.ReturnValue type source line) index is at e h = absurd h
-  on_placed program ns main all k labels (Y.Goto level label line) index is at e h = absurd h
-  on_placed program ns main all k labels (Y.Stop line) index is at e h = absurd h
-  on_placed program ns main all k labels (Y.AssignElements target source line) index is at e h = absurd h
-  on_placed program ns main all k labels (Y.AssignAggregate target source line) index is at e h = absurd h
-  on_placed program ns main all k labels (Y.AssignArea target source line) index is at e h = absurd h
-  on_placed program ns main all k labels (Y.EmptyArea target line) index is at e h = absurd h
-  on_placed program ns main all k labels (Y.DoOnce variable start condition body line) index is at e h = absurd h
-  on_placed program ns main all k labels (Y.DoCount counter start limit step condition body line) index is at e h =
+  on_placed program ns main all k valued labels (Y.Null line) index is at e h = absurd h
+  on_placed program ns main all k valued labels (Y.Assign target source line) index is at e h = absurd h
+  on_placed program ns main all k valued labels (Y.CallProcedure call line) index is at e h = absurd h
+  on_placed program ns main all k valued labels (Y.Return line) index is at e h = absurd h
+  on_placed program ns main all k valued labels (Y.ReturnValue type source line) index is at e h = absurd h
+  on_placed program ns main all k valued labels (Y.Goto level label line) index is at e h = absurd h
+  on_placed program ns main all k valued labels (Y.Stop line) index is at e h = absurd h
+  on_placed program ns main all k valued labels (Y.AssignElements target source line) index is at e h = absurd h
+  on_placed program ns main all k valued labels (Y.AssignAggregate target source line) index is at e h = absurd h
+  on_placed program ns main all k valued labels (Y.AssignArea target source line) index is at e h = absurd h
+  on_placed program ns main all k valued labels (Y.EmptyArea target line) index is at e h = absurd h
+  on_placed program ns main all k valued labels (Y.DoOnce variable start condition body line) index is at e h = absurd h
+  on_placed program ns main all k valued labels (Y.DoCount counter start limit step condition body line) index is at e h =
       absurd h
-  on_placed program ns main all k labels (Y.Begin block) index is at e h = absurd h
-  on_placed program ns main all k labels (Y.Signal condition line) index is at e h = absurd h
-  on_placed program ns main all k labels (Y.Allocate items line) index is at e h = absurd h
-  on_placed program ns main all k labels (Y.Free items line) index is at e h = absurd h
-  on_placed program ns main all k labels (Y.Get skip pairs line) index is at e h = absurd h
-  on_placed program ns main all k labels (Y.Put skip pairs line) index is at e h = absurd h
-  on_placed program ns main all k labels (Y.OnSystem condition line) index is at e h = absurd h
-  on_placed program ns main all k labels (Y.Revert condition line) index is at e h = absurd h
+  on_placed program ns main all k valued labels (Y.Begin block) index is at e h = absurd h
+  on_placed program ns main all k valued labels (Y.Signal condition line) index is at e h = absurd h
+  on_placed program ns main all k valued labels (Y.Allocate items line) index is at e h = absurd h
+  on_placed program ns main all k valued labels (Y.Free items line) index is at e h = absurd h
+  on_placed program ns main all k valued labels (Y.Get skip pairs line) index is at e h = absurd h
+  on_placed program ns main all k valued labels (Y.Put skip pairs line) index is at e h = absurd h
+  on_placed program ns main all k valued labels (Y.OnSystem condition line) index is at e h = absurd h
+  on_placed program ns main all k valued labels (Y.Revert condition line) index is at e h = absurd h
 
   pub all_on_placed :
-      (program : Y.Program) (ns : List ℕ) (main : Y.BlockHead) (all : Y.Stmts) (k : Block) (labels : List Label)
-      (body : Y.Stmts) (index : ℕ) → are_steps program ns main all labels body ≡ true → AreStanding k body index →
+      (program : Y.Program) (ns : List ℕ) (main : Y.BlockHead) (all : Y.Stmts) (k : Block) (valued : Bool)
+      (labels : List Label)
+      (body : Y.Stmts) (index : ℕ) → are_steps program ns main all valued labels body ≡ true → AreStanding k body index →
       (e : OnUnit × ℕ) → IsListed e (all_placed_in k.environment body index) → IsPlaced program ns main all k index e
-  all_on_placed program ns main all k labels (Y.EndOfList own) index is at e h = absurd h
-  all_on_placed program ns main all k labels (Y.StmtThen own first rest) index is at e h =
-      let a = and_parts (is_step program ns main all labels first) (are_steps program ns main all labels rest) is in
+  all_on_placed program ns main all k valued labels (Y.EndOfList own) index is at e h = absurd h
+  all_on_placed program ns main all k valued labels (Y.StmtThen own first rest) index is at e h =
+      let a = and_parts (is_step program ns main all valued labels first) (are_steps program ns main all valued labels rest) is in
       let here = index + size_of (marked k.environment.block own) in
       let behind = here + size_of (stmt_code k.environment none_taken first) in
       placed_from index (omega arith)
       (two_placed here (placed_in k.environment first here) (all_placed_in k.environment rest behind) e
-      (λ q. on_placed program ns main all k labels first here a.0 (one_stands k own first rest index at) e q)
+      (λ q. on_placed program ns main all k valued labels first here a.0 (one_stands k own first rest index at) e q)
       (λ q. placed_from here (omega arith)
-      (all_on_placed program ns main all k labels rest behind a.1 (rest_stands k own first rest index at) e q)) h)
+      (all_on_placed program ns main all k valued labels rest behind a.1 (rest_stands k own first rest index at) e q)) h)

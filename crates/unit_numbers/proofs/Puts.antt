@@ -38,7 +38,7 @@ use Rattle.unit_numbers.proofs.Past.{main_past}
 
 -- ---- static data
 
-past_constants : (past : Past) (p : Point) → (past_point past p).places.constants ≡ p.places.constants
+pub past_constants : (past : Past) (p : Point) → (past_point past p).places.constants ≡ p.places.constants
 past_constants [] p = refl
 past_constants (e ∷ past) p = past_constants past p
 

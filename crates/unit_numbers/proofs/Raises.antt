@@ -1,5 +1,5 @@
--- What is known around the statements of a block: its raises come to what they mean, be it by a unit of the main
--- procedure, and so do its calls, its jumps out and what it writes.
+-- What is known around the statements of a block: its raises come to what they mean, be it by a unit of its own or of a
+-- block below, and so do its calls, its jumps out and what it writes.
 use Rattle.std.proofs.Common.{◌≡◌, ◌⊎◌, inl, inr, ℕ, zero, suc, ◌+◌, ◌^◌, ◌<◌, List, [], ◌∷◌, length}
 use Rattle.std.proofs.Common.{Bool, true, false, refl, sym, ap, ◌∙◌, subst, arith}
 use Rattle.std.specs.Prelude.{◌&&◌, ◌==◌, nat_lt, not}
@@ -49,13 +49,15 @@ use Rattle.nested_calls.specs.Nested.{parent_at}
 use Rattle.unit_numbers.specs.Calls.{has_jumps, has_unit, is_jumped_to}
 use Rattle.unit_numbers.proofs.Calls.{calls_of}
 use Rattle.unit_numbers.proofs.Divides.{deep_divide_ends, divide_returns}
-use Rattle.unit_numbers.proofs.Established.{InForce, Newest, in_force, list_placed, none_system}
+use Rattle.unit_numbers.proofs.Established.{list_placed}
 use Rattle.unit_numbers.proofs.Homes.{Home, IsHome', home_block}
+use Rattle.unit_numbers.proofs.Hosts.{InForce}
 use Rattle.unit_numbers.proofs.Mains.{Main, block_for, level_of, list_of, main_begun, main_layer, most_for}
 use Rattle.unit_numbers.proofs.Outer.{main_saves, made_stacks}
 use Rattle.unit_numbers.proofs.Past.{past_like}
 use Rattle.unit_numbers.proofs.Puts.{settled_writes}
-use Rattle.unit_numbers.proofs.Raised.{Case, part_of, raise_setting, unit_at, unit_entered, unit_raised}
+use Rattle.unit_numbers.proofs.Raised.{Case, Source, part_of, raise_setting, source_of, unit_at, unit_entered}
+use Rattle.unit_numbers.proofs.Raised.{unit_raised}
 use Rattle.unit_numbers.proofs.Scenes.{EachBody, IsAbove, IsAt, IsInside, Part, Rises, at_placed, at_waited}
 use Rattle.unit_numbers.proofs.Scenes.{block_of, placed_outer, rises_above, scope_of, waited_outer}
 use Rattle.unit_numbers.proofs.Routines.{error_routines}
@@ -72,19 +74,22 @@ unit_does :
     {program : Y.Program} (m : Main program) (h : Home) → IsHome' m h → (more b : ℕ) (c : Part) (o : Outer)
     (os : List Outer) → IsAt m h (suc more) (suc b) c o os → EachBody m more → (own : List Label) →
     Rises m h (block_of m h o os) own → (words : ℕ) (labels : List Label) → Includes own labels → (line : ℕ)
-    {condition : Condition} (n : Newest m h.input h.acts h.past condition)
-    (e : IsRaised (raise_setting m h o os words labels line) (unit_at m more n.unit n.index) more) →
-    e.by.height ≡ 1 → nat_lt (length o.first.state.activations) most_activations ≡ true →
-    UnitDoes (raise_setting m h o os words labels line) (unit_at m more n.unit n.index) more e
-unit_does {program} m h ih more b c o os a each own rises words labels includes line n e height few r is =
-    let z = raise_setting m h o os words labels line in
-    let y = unit_at m more n.unit n.index in
+    {condition : Condition} (z : Source m h more b c o os condition)
+    (e : IsRaised (raise_setting m h o os words labels line)
+    (unit_at program z.head more z.newest.unit z.newest.index) more) →
+    e.by ≡ z.newest.by → nat_lt (length o.first.state.activations) most_activations ≡ true →
+    UnitDoes (raise_setting m h o os words labels line) (unit_at program z.head more z.newest.unit z.newest.index) more
+    e
+unit_does {program} m h ih more b c o os a each own rises words labels includes line z e by few r is =
+    let k = raise_setting m h o os words labels line in
+    let n = z.newest in
+    let y = unit_at program z.head more n.unit n.index in
     let x = n.unit in
-    let u = unit_is program m.called m.head (list_of m) x n.placed.is in
-    let made = none_made z y r
+    let u = unit_is program m.called z.head (list_of m) x n.on.is in
+    let made = none_made k y r
     (record {
       kind = u.bare;
-      code = none_coded program (environment_for program m.head) x.head refl u.bare;
+      code = none_coded program (environment_for program z.head) x.head refl u.bare;
       made = refl;
     })
     in (
@@ -93,15 +98,15 @@ unit_does {program} m h ih more b c o os a each own rises words labels includes 
           let q : Case m h more b c o os words labels line n e r = record {
             home = ih;
             at = a;
-            height = height;
+            by = by;
             few = few;
             is = is;
             made = made;
             begun = b';
           } in
-          (each h b (part_of m more x n.index u) (as_outer (unit_block z y r) [])
+          (each h b (part_of m z.head more x n.index u) (as_outer (unit_block k y r) [])
           (as_outer (block_of m h o os) labels ∷ os)
-          ih (unit_entered m n q) (rises labels includes)).each,
+          ih (unit_entered m z q) (rises labels includes)).each refl,
     )
 
 -- ---- the conditions
@@ -113,77 +118,81 @@ pub error_at :
     (r : ErrorRoutines (links_for program) (linked_code (code_for program))) →
     ErrorGoes X (raise_setting m h o os words labels line) r
 error_at X once {program} m h ih more blocks c o os a each own rises words labels includes line r =
-    by blocks a (in_force once m h.input h.acts h.past ih.known C.Error)
+    by blocks a (a.forced C.Error)
   where
     by :
-        (blocks' : ℕ) → IsAt m h (suc more) blocks' c o os → InForce m h.input h.acts h.past C.Error →
+        (blocks' : ℕ) → IsAt m h (suc more) blocks' c o os → InForce m (block_of m h o os) c.caller C.Error →
         ErrorGoes X (raise_setting m h o os words labels line) r
     by blocks' a' (inl system) =
         let inside = r.routines.linked.inside in
         error_system X (raise_setting m h o os words labels line) r
-        (subst IsSystem (sym (a'.forced C.Error)) system) ih.few (omega (arith, inside))
+        system ih.few (omega (arith, inside))
     by zero a' (inr n) = let some = a'.depth.some in absurd (omega (arith, some))
     by (suc b) a' (inr n) =
-        let z = raise_setting m h o os words labels line in
-        let y = unit_at m more n.unit n.index in
+        let k = raise_setting m h o os words labels line in
+        let z = source_of a' n in
+        let y = unit_at program z.head more z.newest.unit z.newest.index in
         by_decision (nat_lt (length o.first.state.activations) most_activations)
         (λ few.
-        let e = unit_raised once m h ih more b c o os a' words labels line n true few in
-        error_runs X z y more e.0
-        (unit_does m h ih more b c o os a' each own rises words labels includes line n e.0 e.1 few) n.condition r)
+        let e = unit_raised once m h ih more b c o os a' words labels line z true few in
+        error_runs X k y more e.0
+        (unit_does m h ih more b c o os a' each own rises words labels includes line z e.0 e.1 few) z.newest.condition
+        r)
         (λ many.
-        let e = unit_raised once m h ih more b c o os a' words labels line n false many in
-        error_deep X z y more e.0 n.condition r)
+        let e = unit_raised once m h ih more b c o os a' words labels line z false many in
+        error_deep X k y more e.0 z.newest.condition r)
 
 overflow_at :
     MarkedOnce → {program : Y.Program} (m : Main program) (h : Home) → IsHome' m h → (more blocks : ℕ) (c : Part)
     (o : Outer) (os : List Outer) → IsAt m h (suc more) blocks c o os → EachBody m more → (own : List Label) →
     Rises m h (block_of m h o os) own → (words : ℕ) (labels : List Label) → Includes own labels → (line : ℕ) →
-    InForce m h.input h.acts h.past C.FixedOverflow → OverflowComes (raise_setting m h o os words labels line)
+    InForce m (block_of m h o os) c.caller C.FixedOverflow → OverflowComes (raise_setting m h o os words labels line)
 overflow_at once {program} m h ih more blocks c o os a each own rises words labels includes line (inl system) =
     let routines = error_routines once program m.loadable in
     let inside = routines.routines.linked.inside in
     overflow_without (raise_setting m h o os words labels line) routines
     (error_at (Unit {0}) once m h ih more blocks c o os a each own rises words labels includes line routines)
-    (subst IsSystem (sym (a.forced C.FixedOverflow)) system) ih.few (omega (arith, inside))
+    system ih.few (omega (arith, inside))
 overflow_at once m h ih more zero c o os a each own rises words labels includes line (inr n) =
     let some = a.depth.some in absurd (omega (arith, some))
-overflow_at once m h ih more (suc b) c o os a each own rises words labels includes line (inr n) =
-    let z = raise_setting m h o os words labels line in
-    let y = unit_at m more n.unit n.index in
+overflow_at once {program} m h ih more (suc b) c o os a each own rises words labels includes line (inr n) =
+    let k = raise_setting m h o os words labels line in
+    let z = source_of a n in
+    let y = unit_at program z.head more z.newest.unit z.newest.index in
     by_decision (nat_lt (length o.first.state.activations) most_activations)
     (λ few.
-    let e = unit_raised once m h ih more b c o os a words labels line n true few in
-    overflow_returns z y more e.0
-    (unit_does m h ih more b c o os a each own rises words labels includes line n e.0 e.1 few) n.condition)
+    let e = unit_raised once m h ih more b c o os a words labels line z true few in
+    overflow_returns k y more e.0
+    (unit_does m h ih more b c o os a each own rises words labels includes line z e.0 e.1 few) z.newest.condition)
     (λ many.
-    let e = unit_raised once m h ih more b c o os a words labels line n false many in
-    deep_overflow_ends z y more e.0 n.condition)
+    let e = unit_raised once m h ih more b c o os a words labels line z false many in
+    deep_overflow_ends k y more e.0 z.newest.condition)
 
 divide_at :
     MarkedOnce → {program : Y.Program} (m : Main program) (h : Home) → IsHome' m h → (more blocks : ℕ) (c : Part)
     (o : Outer) (os : List Outer) → IsAt m h (suc more) blocks c o os → EachBody m more → (own : List Label) →
     Rises m h (block_of m h o os) own → (words : ℕ) (labels : List Label) → Includes own labels → (line : ℕ) →
-    InForce m h.input h.acts h.past C.ZeroDivide → ZeroDivideComes (raise_setting m h o os words labels line)
+    InForce m (block_of m h o os) c.caller C.ZeroDivide → ZeroDivideComes (raise_setting m h o os words labels line)
 divide_at once {program} m h ih more blocks c o os a each own rises words labels includes line (inl system) =
     let routines = error_routines once program m.loadable in
     let inside = routines.routines.linked.inside in
     divide_without (raise_setting m h o os words labels line) routines
     (error_at (Unit {0}) once m h ih more blocks c o os a each own rises words labels includes line routines)
-    (subst IsSystem (sym (a.forced C.ZeroDivide)) system) ih.few (omega (arith, inside))
+    system ih.few (omega (arith, inside))
 divide_at once m h ih more zero c o os a each own rises words labels includes line (inr n) =
     let some = a.depth.some in absurd (omega (arith, some))
-divide_at once m h ih more (suc b) c o os a each own rises words labels includes line (inr n) =
-    let z = raise_setting m h o os words labels line in
-    let y = unit_at m more n.unit n.index in
+divide_at once {program} m h ih more (suc b) c o os a each own rises words labels includes line (inr n) =
+    let k = raise_setting m h o os words labels line in
+    let z = source_of a n in
+    let y = unit_at program z.head more z.newest.unit z.newest.index in
     by_decision (nat_lt (length o.first.state.activations) most_activations)
     (λ few.
-    let e = unit_raised once m h ih more b c o os a words labels line n true few in
-    divide_returns z y more e.0
-    (unit_does m h ih more b c o os a each own rises words labels includes line n e.0 e.1 few) n.condition)
+    let e = unit_raised once m h ih more b c o os a words labels line z true few in
+    divide_returns k y more e.0
+    (unit_does m h ih more b c o os a each own rises words labels includes line z e.0 e.1 few) z.newest.condition)
     (λ many.
-    let e = unit_raised once m h ih more b c o os a words labels line n false many in
-    deep_divide_ends z y more e.0 n.condition)
+    let e = unit_raised once m h ih more b c o os a words labels line z false many in
+    deep_divide_ends k y more e.0 z.newest.condition)
 
 -- ---- SIGNAL
 
@@ -225,24 +234,24 @@ signal_in :
     MarkedOnce → {program : Y.Program} (m : Main program) (h : Home) → IsHome' m h → (more b : ℕ) (c : Part)
     (o : Outer) (os : List Outer) → IsAt m h (suc more) (suc b) c o os → EachBody m more → (own : List Label) →
     Rises m h (block_of m h o os) own → (labels : List Label) → Includes own labels → (line : ℕ)
-    {condition : Condition} → Newest m h.input h.acts h.past condition →
+    {condition : Condition} → Source m h more b c o os condition →
     RaisesTo (raise_setting m h o os 0 labels line) condition (code_signalled condition)
-signal_in once {program} m h ih more b c o os a each own rises labels includes line {condition} n =
-    let z = raise_setting m h o os 0 labels line in
-    let y = unit_at m more n.unit n.index in
-    let d = n.unit.condition in
-    subst (λ e. RaisesTo z e (code_signalled e)) n.condition
+signal_in once {program} m h ih more b c o os a each own rises labels includes line {condition} z =
+    let k = raise_setting m h o os 0 labels line in
+    let y = unit_at program z.head more z.newest.unit z.newest.index in
+    let d = z.newest.unit.condition in
+    subst (λ e. RaisesTo k e (code_signalled e)) z.newest.condition
     (by_decision (nat_lt (length o.first.state.activations) most_activations)
     (λ few.
-    let e = unit_raised once m h ih more b c o os a 0 labels line n true few in
+    let e = unit_raised once m h ih more b c o os a 0 labels line z true few in
     λ p numbers credits wanted i f among same l paid there.
-    raise_returns z y more e.0
-    (unit_does m h ih more b c o os a each own rises 0 labels includes line n e.0 e.1 few) (code_signalled d)
+    raise_returns k y more e.0
+    (unit_does m h ih more b c o os a each own rises 0 labels includes line z e.0 e.1 few) (code_signalled d)
     (codes_are d) p numbers credits wanted i f among same l paid there)
     (λ many.
-    let e = unit_raised once m h ih more b c o os a 0 labels line n false many in
+    let e = unit_raised once m h ih more b c o os a 0 labels line z false many in
     λ p numbers credits wanted i f among same l paid there.
-    deep_raise_ends z y more e.0 (code_signalled d) (codes_are d) p numbers credits wanted i f among l paid there))
+    deep_raise_ends k y more e.0 (code_signalled d) (codes_are d) p numbers credits wanted i f among l paid there))
 
 signal_at :
     MarkedOnce → {program : Y.Program} (m : Main program) (h : Home) → IsHome' m h → (more blocks : ℕ) (c : Part)
@@ -260,15 +269,16 @@ signal_at once {program} m h ih more blocks c o os a each own rises labels inclu
     goes = error_at (Unit {0}) once m h ih more blocks c o os a each own rises 0 labels includes line routines
 
     raises :
-        (blocks' : ℕ) → IsAt m h (suc more) blocks' c o os → InForce m h.input h.acts h.past condition →
+        (blocks' : ℕ) → IsAt m h (suc more) blocks' c o os → InForce m (block_of m h o os) c.caller condition →
         RaisesTo (raise_setting m h o os 0 labels line) condition (code_signalled condition)
     raises blocks' a' (inl system) =
         let inside = routines.routines.linked.inside in
         condition_by (raise_setting m h o os 0 labels line) routines goes condition
-        (subst IsSystem (sym (a'.forced condition)) system) ih.few (omega (arith, inside)) (code_signalled condition)
+        system ih.few (omega (arith, inside)) (code_signalled condition)
         (codes_are condition)
     raises zero a' (inr n) = let some = a'.depth.some in absurd (omega (arith, some))
-    raises (suc b) a' (inr n) = signal_in once m h ih more b c o os a' each own rises labels includes line n
+    raises (suc b) a' (inr n) =
+        signal_in once m h ih more b c o os a' each own rises labels includes line (source_of a' n)
 
     by : (C.Error ≡ condition) ⊎ IsResumed condition →
         Does (block_of m h o os) labels (Y.Signal condition line) index left_over
@@ -289,7 +299,7 @@ signal_at once {program} m h ih more blocks c o os a each own rises labels inclu
         z.linked
     by (inr resumed) =
         signal_to m h ih o os labels condition line index resumed z
-        (raises blocks a (in_force once m h.input h.acts h.past ih.known condition))
+        (raises blocks a (a.forced condition))
 
 -- ---- subscripts
 
@@ -301,10 +311,10 @@ raises_of once {program} m h ih more blocks c o os a each own rises =
     record {
       overflow = λ may words set labels line includes.
           overflow_at once m h ih more blocks c o os a each own rises words labels includes line
-          (in_force once m h.input h.acts h.past ih.known C.FixedOverflow);
+          (a.forced C.FixedOverflow);
       divisor = λ may words set labels line includes.
           divide_at once m h ih more blocks c o os a each own rises words labels includes line
-          (in_force once m h.input h.acts h.past ih.known C.ZeroDivide);
+          (a.forced C.ZeroDivide);
       subscript = λ may words set labels line includes.
           let routines = error_routines once program m.loadable in
           subscript_by (raise_setting m h o os words labels line) routines
@@ -325,10 +335,10 @@ held_puts once {program} m h ih more blocks c o os a writes errors held =
     let none : (d : Condition) →
     not (c.writes && (is_jumped_to c.caller c.unit (list_of m) && has_unit d (list_of m))) ≡ true →
     IsSystem (force o.first.state.activations d) = λ d may.
-    subst IsSystem (sym (a.forced d)) (none_system once m h.input h.acts h.past ih.known d
+    a.settled held d
     (subst (λ q. not (q && has_unit d (list_of m)) ≡ true) held
     (subst (λ w. not (w && (is_jumped_to c.caller c.unit (list_of m) && has_unit d (list_of m))) ≡ true) writes
-    may))) in
+    may)) in
     settled_writes (scope_of m c) (block_of m h o os) (most_for program)
     (record {
       begun = a.begun;
@@ -336,8 +346,7 @@ held_puts once {program} m h ih more blocks c o os a writes errors held =
       place = error_routine once program m.loadable;
       overflow = none C.FixedOverflow;
       divisor = none C.ZeroDivide;
-      error = subst IsSystem (sym (a.forced C.Error))
-          (none_system once m h.input h.acts h.past ih.known C.Error errors);
+      error = a.settled held C.Error errors;
       acts = ih.few;
       few = omega (arith, inside);
       variables = a.variables;
@@ -368,10 +377,10 @@ free_puts once {program} m h ih more blocks c o os a each above =
             begun = a'.begun;
             overflow = λ raises.
                 overflow_at once m h ih more blocks c o' os a' each [] rises words [] (λ label e. e) line
-                (in_force once m h.input h.acts h.past ih.known C.FixedOverflow);
+                (a'.forced C.FixedOverflow);
             divisor = λ raises.
                 divide_at once m h ih more blocks c o' os a' each [] rises words [] (λ label e. e) line
-                (in_force once m h.input h.acts h.past ih.known C.ZeroDivide);
+                (a'.forced C.ZeroDivide);
             subscript = λ raises.
                 subscript_by (raise_setting m h o' os words [] line) routines
                 (error_at (Unit {0}) once m h ih more blocks c o' os a' each [] rises words [] (λ label e. e) line
@@ -470,13 +479,14 @@ far_of once {program} m h ih more blocks c o os a inner above label among ls lin
 jumps_of :
     MarkedOnce → {program : Y.Program} (m : Main program) (h : Home) → IsHome' m h → (more blocks : ℕ) (c : Part)
     (o : Outer) (os : List Outer) → IsAt m h more blocks c o os →
-    (c.unit ≡ true → IsInside m c o × (has_jumps (list_of m) ≡ true → IsAbove m h os)) →
+    (c.unit ≡ true → c.caller.level ≡ 0 → IsInside m c o × (has_jumps (list_of m) ≡ true → IsAbove m h os)) →
     (own : List Label) → KnowsJumps (scope_of m c) (block_of m h o os) own left_over
 jumps_of once {program} m h ih more blocks c o os a inner own labels level label line index includes out less =
     let there = (level == c.caller.level) && is_among label (labels_in (list_of m)) in
-    let q = and_parts c.unit (has_jumps (list_of m) && there) out in
-    let i = inner q.0 in
-    let j = and_parts (has_jumps (list_of m)) there q.1 in
+    let q = and_parts c.unit ((c.caller.level == 0) && (has_jumps (list_of m) && there)) out in
+    let outer = and_parts (c.caller.level == 0) (has_jumps (list_of m) && there) q.1 in
+    let i = inner q.0 (eqb-true c.caller.level 0 outer.0) in
+    let j = and_parts (has_jumps (list_of m)) there outer.1 in
     let p = and_parts (level == c.caller.level) (is_among label (labels_in (list_of m))) j.1 in
     let same = eqb-true level c.caller.level p.0 ∙ ap (λ (x : Y.BlockHead). x.level) i.0.caller in
     subst (λ n. Linked (links_for program) (linked_code (code_for program)) index
@@ -496,7 +506,7 @@ pub record Knows (program : Y.Program) (s : Scope) (k : Block) (own : List Label
 pub knows_of :
     MarkedOnce → {program : Y.Program} (m : Main program) (h : Home) → IsHome' m h → (more blocks : ℕ) (c : Part)
     (o : Outer) (os : List Outer) → IsAt m h (suc more) blocks c o os →
-    (c.unit ≡ true → IsInside m c o × (has_jumps (list_of m) ≡ true → IsAbove m h os)) →
+    (c.unit ≡ true → c.caller.level ≡ 0 → IsInside m c o × (has_jumps (list_of m) ≡ true → IsAbove m h os)) →
     (is_jumped_to c.caller c.unit (list_of m) ≡ false → has_jumps (list_of m) ≡ true → IsAbove m h os) →
     EachBody m more → (own : List Label) → Rises m h (block_of m h o os) own →
     Knows program (scope_of m c) (block_of m h o os) own

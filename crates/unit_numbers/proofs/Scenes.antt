@@ -1,18 +1,20 @@
 -- A block that runs above the main procedure's: of a procedure, of a function, or of a unit; and what is known at its
 -- first statement.
 use Rattle.std.proofs.Common.{◌≡◌, ℕ, suc, ◌+◌, ◌<◌, ◌≤◌, List, [], ◌∷◌, ◌++◌, Bool, Option, None, true, false, refl}
-use Rattle.std.specs.Prelude.{drop}
+use Rattle.std.proofs.Common.{sym, ap}
+use Rattle.std.specs.Prelude.{drop, not}
 use Rattle.pli_language.specs.declared.condition.Condition.{Condition}
 use Rattle.pli_typing.specs.TypedTree as Y
 use Rattle.pli_meaning.specs.Control.{Label}
 use Rattle.pli_meaning.specs.Executing.{entered, labels_in}
-use Rattle.pli_meaning.specs.StorageState.{force}
+use Rattle.pli_meaning.specs.StorageState.{Activation, force}
 use Rattle.pli_coding.specs.Environments.{block_around, none_taken}
 use Rattle.pli_coding.specs.Images.{linked_code}
 use Rattle.pli_coding.specs.Registers.{held_registers}
 use Rattle.pli_coding.specs.Statements.{stmts_code}
 use Rattle.activation_relation.specs.FrameLaws.{with_waits}
-use Rattle.activation_relation.specs.Layers.{Layer}
+use Rattle.activation_relation.specs.Layers.{Layer, Point}
+use Rattle.activation_relation.specs.ServiceLaws.{IsSystem}
 use Rattle.edit_runs.specs.Writing.{with_edits}
 use Rattle.pli_serving.specs.ServiceState.{EditPlace, Entry}
 use Rattle.program_runs.proofs.Waiting.{begun_waits}
@@ -25,12 +27,14 @@ use Rattle.program_places.specs.Programs.{code_for, links_for}
 use Rattle.program_runs.specs.Calls.{left_over}
 use Rattle.program_runs.specs.Starts.{image_parts}
 use Rattle.program_runs.specs.Statements.{Block, EachDoes, IsBegun, Outer, as_outer, outer_block, with_texts}
-use Rattle.expression_runs.specs.Assignments.{setting_of}
 use Rattle.expression_runs.specs.Variables.{IsNumber, Spot}
 use Rattle.element_runs.specs.Arrays.{IsArray}
 use Rattle.scalar_runs.specs.Scalars.{IsScalar}
 use Rattle.condition_codes.specs.Codes.{HasCode}
-use Rattle.error_units.specs.Errors.{ErrorGoes, ErrorRoutines}
+use Rattle.jump_runs.specs.Functions.{FunctionDoes, IsFunctionList}
+use Rattle.phase_runs.specs.Units.{IsListed}
+use Rattle.unit_runs.specs.Establishing.{OnUnit}
+use Rattle.unit_runs.specs.InnerLists.{ListDoes}
 use Rattle.counter_runs.proofs.Known.{array_told, number_told}
 use Rattle.counter_runs.proofs.Words.{begun_telling}
 use Rattle.argument_runs.specs.Lists.{with_list}
@@ -42,10 +46,14 @@ use Rattle.number_runs.proofs.Narrow.{narrow_told}
 use Rattle.number_runs.specs.Statements.{are_statements, statements_need, statements_set}
 use Rattle.number_headlines.specs.Programs.{most_waiting}
 use Rattle.number_headlines.proofs.Running.{Free, HasDepth, HasTable}
-use Rattle.unit_numbers.specs.Calls.{has_jumps, scope_in}
+use Rattle.unit_numbers.specs.Calls.{has_jumps, has_unit, is_jumped_to, scope_in}
+use Rattle.unit_numbers.specs.Steps.{are_steps}
+use Rattle.unit_numbers.proofs.Established.{IsOnOf}
 use Rattle.unit_numbers.proofs.Homes.{Home, IsHome', home_block, world_of}
+use Rattle.unit_numbers.proofs.Hosts.{HasNames, InForce, InForceBelow, MayHost, force_with}
+use Rattle.unit_numbers.proofs.Mains.{Main, list_of}
+use Rattle.unit_numbers.proofs.Places.{all_placed_in}
 use Rattle.unit_numbers.proofs.Puts.{array_placed}
-use Rattle.unit_numbers.proofs.Mains.{Main, list_of, main_scope, most_for}
 
 -- ---- what runs
 
@@ -86,19 +94,14 @@ pub record IsAt {program : Y.Program} (m : Main program) (h : Home) (more blocks
     pub narrows :
         (x : Spot) → is_narrow_known (scope_of m c) x ≡ true →
         IsScalar (block_of m h o os) x (type_known (scope_of m c) x)
-    -- the units in force are those of the main procedure
-    pub forced :
-        (condition : Condition) →
-        force o.first.state.activations condition ≡ force (home_block m h).first.state.activations condition
-    -- the oldest block is that, and its variables are variables here
+    -- the unit in force for a condition is known: its own, or one of a block below
+    pub forced : (condition : Condition) → InForce m (block_of m h o os) c.caller condition
+    -- in the main procedure's own list, to whose labels units jump, that is one of the list
+    pub settled :
+        is_jumped_to c.caller c.unit (list_of m) ≡ true → (condition : Condition) →
+        not (has_unit condition (list_of m)) ≡ true → IsSystem (force o.first.state.activations condition)
+    -- the oldest block is the main procedure's
     pub oldest : parent_at (block_of m h o os) 0 ≡ 1
-    pub mains : (x : Spot) → is_known (main_scope m false) x ≡ true → IsNumber (block_of m h o os) x
-    pub main_arrays :
-        (x : Spot) → is_array_known (main_scope m false) x ≡ true →
-        IsArray (block_of m h o os) x (bounds_known (main_scope m false) x)
-    pub main_narrows :
-        (x : Spot) → is_narrow_known (main_scope m false) x ≡ true →
-        IsScalar (block_of m h o os) x (type_known (main_scope m false) x)
     pub idle : o.first.control.waiting ≡ None
     -- ONCODE is a condition's code, or 0
     pub code : HasCode (block_of m h o os)
@@ -110,18 +113,43 @@ pub record IsAt {program : Y.Program} (m : Main program) (h : Home) (more blocks
 
 -- its list is of the class and stands in the code
 pub record IsPart {program : Y.Program} (m : Main program) (c : Part) (o : Outer) : Type 0 where
-  pub statements : are_statements (scope_of m c) c.valued (labels_in c.body ++ []) c.body ≡ true
+  pub statements :
+      c.unit ≡ true → are_statements (scope_of m c) c.valued (labels_in c.body ++ []) c.body ≡ true
   pub needs : statements_need c.body ≤ o.registers
   pub waiting : statements_set c.body ≤ most_waiting
   pub placed :
       Placed (links_for program) (linked_code (code_for program)) c.index
       (stmts_code o.environment none_taken c.body)
 
--- a unit's own block
+-- a unit's own block, if the main procedure established the unit
 pub record IsInside {program : Y.Program} (m : Main program) (c : Part) (o : Outer) : Type 0 where
   pub caller : c.caller ≡ m.head
   pub level : o.beginning.layer.level ≡ 1
   pub block : block_around o.environment m.head.level ≡ m.head.number
+
+-- no unit is its own there
+pub record IsBare (p : Point) : Type 0 where
+  pub activation : Activation
+  pub others : List Activation
+  pub none : activation.units ≡ []
+  pub is : p.state.activations ≡ activation ∷ others
+
+-- the ONs of its list, where they stand
+abbrev pub ons_in : Part → Outer → List (OnUnit × ℕ)
+ons_in c o = all_placed_in o.environment c.body c.index
+
+-- what is called, in whose list ON may stand
+pub record IsVisited {program : Y.Program} (m : Main program) (h : Home) (c : Part) (o : Outer) (os : List Outer)
+    : Type 0
+  where
+    pub steps :
+        are_steps program m.called c.caller (list_of m) c.valued (labels_in c.body ++ []) c.body ≡ true
+    pub ons : (e : OnUnit × ℕ) → IsListed e (ons_in c o) → IsOnOf m c.caller e
+    pub bare : IsBare o.first
+    pub level : o.environment.level ≡ c.caller.level
+    pub inner : 0 < c.caller.level
+    pub below : (condition : Condition) → InForceBelow m (block_of m h o os) condition
+    pub home : IsHome (scope_of m c) c.valued (block_of m h o os) left_over
 
 -- where it was entered just now: its frame has the words that its loops set aside, and nothing waits in them
 pub record IsEntered {program : Y.Program} (m : Main program) (h : Home) (more blocks : ℕ) (c : Part) (o : Outer)
@@ -131,8 +159,8 @@ pub record IsEntered {program : Y.Program} (m : Main program) (h : Home) (more b
     pub part : IsPart m c o
     pub words : at.free.layer.words ≡ statements_set c.body
     pub clear : (n : ℕ) → at.free.layer.waits n ≡ None
-    pub inner : c.unit ≡ true → IsInside m c o
-    pub home : c.unit ≡ false → IsHome (scope_of m c) c.valued (block_of m h o os) left_over
+    pub inner : c.unit ≡ true → c.caller.level ≡ 0 → IsInside m c o
+    pub visited : c.unit ≡ false → IsVisited m h c o os
 
 -- ---- above the main procedure's block
 
@@ -188,13 +216,11 @@ at_told {program} {m} {h} {more} {blocks} {c} {o} {os} a waits =
       variables = λ x is. number_told k φ φs waits free.newest x (a.variables x is);
       arrays = λ x is. array_told k φ φs waits free.newest x (bounds_known (scope_of m c) x) (a.arrays x is);
       narrows = λ x is. narrow_told k φ φs waits free.newest x (type_known (scope_of m c) x) (a.narrows x is);
-      forced = a.forced;
+      forced = λ d.
+          force_with k (record o.first.control { layers = with_waits waits φ ∷ φs })
+          (λ n. sym (ap (λ ls. drop (suc n) ls) free.newest)) (a.forced d);
+      settled = a.settled;
       oldest = a.oldest;
-      mains = λ x is. number_told k φ φs waits free.newest x (a.mains x is);
-      main_arrays = λ x is.
-          array_told k φ φs waits free.newest x (bounds_known (main_scope m false) x) (a.main_arrays x is);
-      main_narrows = λ x is.
-          narrow_told k φ φs waits free.newest x (type_known (main_scope m false) x) (a.main_narrows x is);
       idle = a.idle;
       code = a.code;
       told = record { code = a.told.code; links = a.told.links; constants = a.told.constants };
@@ -237,11 +263,10 @@ at_placed {program} {m} {h} {more} {blocks} {c} {o} {os} a place =
       variables = λ x is. number_placed k place x (a.variables x is);
       arrays = λ x is. array_placed k place x (bounds_known (scope_of m c) x) (a.arrays x is);
       narrows = λ x is. narrow_placed k place x (type_known (scope_of m c) x) (a.narrows x is);
-      forced = a.forced;
+      forced = λ d.
+          force_with k (record o.first.control { edits = place ∷ o.first.control.edits }) (λ n. refl) (a.forced d);
+      settled = a.settled;
       oldest = a.oldest;
-      mains = λ x is. number_placed k place x (a.mains x is);
-      main_arrays = λ x is. array_placed k place x (bounds_known (main_scope m false) x) (a.main_arrays x is);
-      main_narrows = λ x is. narrow_placed k place x (type_known (main_scope m false) x) (a.main_narrows x is);
       idle = a.idle;
       code = a.code;
       told = record { code = a.told.code; links = a.told.links; constants = a.told.constants };
@@ -284,11 +309,11 @@ at_waited {program} {m} {h} {more} {blocks} {c} {o} {os} a entries =
       variables = λ x is. number_waits k entries x (a.variables x is);
       arrays = λ x is. array_waits k entries x (bounds_known (scope_of m c) x) (a.arrays x is);
       narrows = λ x is. narrow_waits k entries x (type_known (scope_of m c) x) (a.narrows x is);
-      forced = a.forced;
+      forced = λ d.
+          force_with k (record o.first.control { entries = entries ++ o.first.control.entries }) (λ n. refl)
+          (a.forced d);
+      settled = a.settled;
       oldest = a.oldest;
-      mains = λ x is. number_waits k entries x (a.mains x is);
-      main_arrays = λ x is. array_waits k entries x (bounds_known (main_scope m false) x) (a.main_arrays x is);
-      main_narrows = λ x is. narrow_waits k entries x (type_known (main_scope m false) x) (a.main_narrows x is);
       idle = a.idle;
       code = a.code;
       told = record { code = a.told.code; links = a.told.links; constants = a.told.constants };
@@ -308,16 +333,36 @@ at_waited {program} {m} {h} {more} {blocks} {c} {o} {os} a entries =
 
 -- ---- what is proved of each block that may be entered so many deep
 
--- its statements do what they mean, and so does ERROR behind them
+-- a unit's statements do what they mean, and the list of what is called comes to its end, or is left
 pub record BodyGoes {program : Y.Program} (m : Main program) (h : Home) (c : Part) (o : Outer) (os : List Outer)
     : Type 0
   where
-    pub each : EachDoes (block_of m h o os) (labels_in c.body ++ []) c.body c.index left_over
-    pub error :
-        (line : ℕ) (r : ErrorRoutines (links_for program) (linked_code (code_for program))) →
-        ErrorGoes (Unit {0}) (setting_of (block_of m h o os) [] line (most_for program)) r
+    pub each : c.unit ≡ true → EachDoes (block_of m h o os) (labels_in c.body ++ []) c.body c.index left_over
+    pub list : c.unit ≡ false → ListDoes (block_of m h o os) c.body c.index left_over
+    pub function :
+        c.unit ≡ false → IsFunctionList (block_of m h o os) c.body c.index →
+        FunctionDoes (block_of m h o os) c.body c.index
 
 abbrev pub EachBody : {program : Y.Program} → Main program → (more : ℕ) → Type 0
 EachBody {program} m more =
     (h : Home) (blocks : ℕ) (c : Part) (o : Outer) (os : List Outer) → IsHome' m h → IsEntered m h more blocks c o os →
     (has_jumps (list_of m) ≡ true → IsAbove m h os) → BodyGoes m h c o os
+
+-- ---- what its units may name
+
+pub names_of :
+    {program : Y.Program} {m : Main program} {h : Home} {more blocks : ℕ} {c : Part} {o : Outer} {os : List Outer} →
+    IsAt m h more blocks c o os → HasNames m c.caller (block_of m h o os)
+names_of a =
+    record {
+      nested = a.nested;
+      oldest = a.oldest;
+      variables = a.variables;
+      arrays = a.arrays;
+      narrows = a.narrows;
+    }
+
+pub may_host :
+    {program : Y.Program} {m : Main program} {h : Home} {more blocks : ℕ} {c : Part} {o : Outer} {os : List Outer} →
+    IsAt m h more blocks c o os → MayHost m c.caller (block_of m h o os)
+may_host a = record { begun = a.begun; source = a.source; parts = a.parts; names = names_of a }

@@ -1,5 +1,6 @@
 -- What the temporaries of the main procedure and of its units take: registers, and the words that loops set aside.
 use Rattle.std.proofs.Common.{◌≡◌, ◌⊎◌, inl, inr, ℕ, ◌≤◌, List, [], ◌++◌, true, false, refl, arith}
+use Rattle.std.specs.Prelude.{Bool}
 use Rattle.std.specs.Prelude.{◌&&◌, max}
 use Rattle.std.proofs.lemmas.Bool.{and_parts, or_cases}
 use Rattle.pli_typing.specs.TypedTree as Y
@@ -17,8 +18,8 @@ use Rattle.number_runs.specs.Variables.{are_plain}
 use Rattle.number_runs.proofs.Taking.{Sets}
 use Rattle.number_runs.proofs.Takes.{statement_taken, test_taken}
 use Rattle.number_runs.proofs.Uncounted.{block_taken}
-use Rattle.unit_numbers.specs.Programs.{are_steps, is_plain_step, is_step, is_step_test}
 use Rattle.unit_numbers.specs.Calls.{scope_in}
+use Rattle.unit_numbers.specs.Steps.{are_steps, is_plain_step, is_step, is_step_test}
 
 -- ---- lists
 
@@ -38,10 +39,10 @@ abbrev Taken_by : Y.Stmt → Type 0
 Taken_by stmt = Sets (statement_needs stmt) (statement_sets stmt) none_taken (stmt_takes none_taken stmt)
 
 plain_taken :
-    (program : Y.Program) (ns : List ℕ) (main : Y.BlockHead) (all : Y.Stmts) (labels : List Label) (stmt : Y.Stmt) →
-    is_plain_step program ns main all labels stmt ≡ true → statement_needs stmt ≤ held_registers → Taken_by stmt
-plain_taken program ns main all labels stmt h fits =
-    by (or_cases (is_statement silent false labels stmt) (is_statement written false labels stmt) h)
+    (program : Y.Program) (ns : List ℕ) (main : Y.BlockHead) (all : Y.Stmts) (valued : Bool) (labels : List Label) (stmt : Y.Stmt) →
+    is_plain_step program ns main all valued labels stmt ≡ true → statement_needs stmt ≤ held_registers → Taken_by stmt
+plain_taken program ns main all valued labels stmt h fits =
+    by (or_cases (is_statement silent valued labels stmt) (is_statement written valued labels stmt) h)
   where
     silent : Scope
     silent = scope_in program ns all main false false
@@ -50,30 +51,30 @@ plain_taken program ns main all labels stmt h fits =
     written = scope_in program ns all main false true
 
     by :
-        (is_statement silent false labels stmt ≡ true) ⊎ (is_statement written false labels stmt ≡ true) →
+        (is_statement silent valued labels stmt ≡ true) ⊎ (is_statement written valued labels stmt ≡ true) →
         Taken_by stmt
-    by (inl is) = statement_taken 0 silent false labels stmt is fits
-    by (inr is) = statement_taken 0 written false labels stmt is fits
+    by (inl is) = statement_taken 0 silent valued labels stmt is fits
+    by (inr is) = statement_taken 0 written valued labels stmt is fits
 
 mutual
   pub step_taken :
-      (program : Y.Program) (ns : List ℕ) (main : Y.BlockHead) (all : Y.Stmts) (labels : List Label)
-      (stmt : Y.Stmt) → is_step program ns main all labels stmt ≡ true → statement_needs stmt ≤ held_registers →
+      (program : Y.Program) (ns : List ℕ) (main : Y.BlockHead) (all : Y.Stmts) (valued : Bool) (labels : List Label)
+      (stmt : Y.Stmt) → is_step program ns main all valued labels stmt ≡ true → statement_needs stmt ≤ held_registers →
       Taken_by stmt
-  step_taken program ns main all labels (Y.OnUnit condition (Y.BlockOf head body) line) h fits = nothing_taken
-  step_taken program ns main all labels (Y.OnSystem condition line) h fits = nothing_taken
-  step_taken program ns main all labels (Y.Revert condition line) h fits = nothing_taken
-  step_taken program ns main all labels (Y.If condition unit line) h fits =
-      let inner = is_step program ns main all labels unit in
+  step_taken program ns main all valued labels (Y.OnUnit condition (Y.BlockOf head body) line) h fits = nothing_taken
+  step_taken program ns main all valued labels (Y.OnSystem condition line) h fits = nothing_taken
+  step_taken program ns main all valued labels (Y.Revert condition line) h fits = nothing_taken
+  step_taken program ns main all valued labels (Y.If condition unit line) h fits =
+      let inner = is_step program ns main all valued labels unit in
       let a = and_parts (is_line line) (is_step_test program ns main all condition && inner) h in
       let b = and_parts (is_step_test program ns main all condition) inner a.1 in
       either_taken (test_needs condition) (statement_needs unit) (test_sets condition) (statement_sets unit) none_taken
       (bit_takes none_taken condition) (stmt_takes none_taken unit)
       (test_taken (scope_in program ns all main false false) condition none_taken b.0 (omega (arith, fits)))
-      (step_taken program ns main all labels unit b.1 (omega (arith, fits)))
-  step_taken program ns main all labels (Y.IfElse condition unit otherwise line) h fits =
-      let first = is_step program ns main all labels unit in
-      let second = is_step program ns main all labels otherwise in
+      (step_taken program ns main all valued labels unit b.1 (omega (arith, fits)))
+  step_taken program ns main all valued labels (Y.IfElse condition unit otherwise line) h fits =
+      let first = is_step program ns main all valued labels unit in
+      let second = is_step program ns main all valued labels otherwise in
       let a = and_parts (is_line line) (is_step_test program ns main all condition && (first && second)) h in
       let b = and_parts (is_step_test program ns main all condition) (first && second) a.1 in
       let c = and_parts first second b.1 in
@@ -84,69 +85,69 @@ mutual
       (test_taken (scope_in program ns all main false false) condition none_taken b.0 (omega (arith, fits)))
       (either_taken (statement_needs unit) (statement_needs otherwise) (statement_sets unit) (statement_sets otherwise)
       none_taken (stmt_takes none_taken unit) (stmt_takes none_taken otherwise)
-      (step_taken program ns main all labels unit c.0 (omega (arith, fits)))
-      (step_taken program ns main all labels otherwise c.1 (omega (arith, fits))))
-  step_taken program ns main all labels (Y.Do body line) h fits =
-      let a = and_parts (is_line line) (are_steps program ns main all (labels_in body ++ labels) body) h in
-      steps_taken program ns main all (labels_in body ++ labels) body a.1 fits
-  step_taken program ns main all labels (Y.DoWhile condition body line) h fits =
-      let inner = are_steps program ns main all (labels_in body ++ labels) body in
+      (step_taken program ns main all valued labels unit c.0 (omega (arith, fits)))
+      (step_taken program ns main all valued labels otherwise c.1 (omega (arith, fits))))
+  step_taken program ns main all valued labels (Y.Do body line) h fits =
+      let a = and_parts (is_line line) (are_steps program ns main all valued (labels_in body ++ labels) body) h in
+      steps_taken program ns main all valued (labels_in body ++ labels) body a.1 fits
+  step_taken program ns main all valued labels (Y.DoWhile condition body line) h fits =
+      let inner = are_steps program ns main all valued (labels_in body ++ labels) body in
       let a = and_parts (is_line line) (is_step_test program ns main all condition && inner) h in
       let b = and_parts (is_step_test program ns main all condition) inner a.1 in
       either_taken (test_needs condition) (statements_need body) (test_sets condition) (statements_set body) none_taken
       (bit_takes none_taken condition) (stmts_take none_taken body)
       (test_taken (scope_in program ns all main false false) condition none_taken b.0 (omega (arith, fits)))
-      (steps_taken program ns main all (labels_in body ++ labels) body b.1 (omega (arith, fits)))
-  step_taken program ns main all labels (Y.Null line) h fits =
-      plain_taken program ns main all labels (Y.Null line) h fits
-  step_taken program ns main all labels (Y.Assign target source line) h fits =
-      plain_taken program ns main all labels (Y.Assign target source line) h fits
-  step_taken program ns main all labels (Y.CallProcedure call line) h fits =
-      plain_taken program ns main all labels (Y.CallProcedure call line) h fits
-  step_taken program ns main all labels (Y.Return line) h fits =
-      plain_taken program ns main all labels (Y.Return line) h fits
-  step_taken program ns main all labels (Y.ReturnValue type source line) h fits =
-      plain_taken program ns main all labels (Y.ReturnValue type source line) h fits
-  step_taken program ns main all labels (Y.Goto level label line) h fits =
-      plain_taken program ns main all labels (Y.Goto level label line) h fits
-  step_taken program ns main all labels (Y.Stop line) h fits =
-      plain_taken program ns main all labels (Y.Stop line) h fits
-  step_taken program ns main all labels (Y.AssignElements target source line) h fits =
-      plain_taken program ns main all labels (Y.AssignElements target source line) h fits
-  step_taken program ns main all labels (Y.AssignAggregate target source line) h fits =
-      plain_taken program ns main all labels (Y.AssignAggregate target source line) h fits
-  step_taken program ns main all labels (Y.AssignArea target source line) h fits =
-      plain_taken program ns main all labels (Y.AssignArea target source line) h fits
-  step_taken program ns main all labels (Y.EmptyArea target line) h fits =
-      plain_taken program ns main all labels (Y.EmptyArea target line) h fits
-  step_taken program ns main all labels (Y.DoOnce variable start condition body line) h fits =
-      plain_taken program ns main all labels (Y.DoOnce variable start condition body line) h fits
-  step_taken program ns main all labels (Y.DoCount counter start limit step condition body line) h fits =
-      plain_taken program ns main all labels (Y.DoCount counter start limit step condition body line) h fits
-  step_taken program ns main all labels (Y.Begin block) h fits =
-      plain_taken program ns main all labels (Y.Begin block) h fits
-  step_taken program ns main all labels (Y.Signal condition line) h fits =
-      plain_taken program ns main all labels (Y.Signal condition line) h fits
-  step_taken program ns main all labels (Y.Allocate items line) h fits =
-      plain_taken program ns main all labels (Y.Allocate items line) h fits
-  step_taken program ns main all labels (Y.Free items line) h fits =
-      plain_taken program ns main all labels (Y.Free items line) h fits
-  step_taken program ns main all labels (Y.Get skip pairs line) h fits =
-      plain_taken program ns main all labels (Y.Get skip pairs line) h fits
-  step_taken program ns main all labels (Y.Put skip pairs line) h fits =
-      plain_taken program ns main all labels (Y.Put skip pairs line) h fits
+      (steps_taken program ns main all valued (labels_in body ++ labels) body b.1 (omega (arith, fits)))
+  step_taken program ns main all valued labels (Y.Null line) h fits =
+      plain_taken program ns main all valued labels (Y.Null line) h fits
+  step_taken program ns main all valued labels (Y.Assign target source line) h fits =
+      plain_taken program ns main all valued labels (Y.Assign target source line) h fits
+  step_taken program ns main all valued labels (Y.CallProcedure call line) h fits =
+      plain_taken program ns main all valued labels (Y.CallProcedure call line) h fits
+  step_taken program ns main all valued labels (Y.Return line) h fits =
+      plain_taken program ns main all valued labels (Y.Return line) h fits
+  step_taken program ns main all valued labels (Y.ReturnValue type source line) h fits =
+      plain_taken program ns main all valued labels (Y.ReturnValue type source line) h fits
+  step_taken program ns main all valued labels (Y.Goto level label line) h fits =
+      plain_taken program ns main all valued labels (Y.Goto level label line) h fits
+  step_taken program ns main all valued labels (Y.Stop line) h fits =
+      plain_taken program ns main all valued labels (Y.Stop line) h fits
+  step_taken program ns main all valued labels (Y.AssignElements target source line) h fits =
+      plain_taken program ns main all valued labels (Y.AssignElements target source line) h fits
+  step_taken program ns main all valued labels (Y.AssignAggregate target source line) h fits =
+      plain_taken program ns main all valued labels (Y.AssignAggregate target source line) h fits
+  step_taken program ns main all valued labels (Y.AssignArea target source line) h fits =
+      plain_taken program ns main all valued labels (Y.AssignArea target source line) h fits
+  step_taken program ns main all valued labels (Y.EmptyArea target line) h fits =
+      plain_taken program ns main all valued labels (Y.EmptyArea target line) h fits
+  step_taken program ns main all valued labels (Y.DoOnce variable start condition body line) h fits =
+      plain_taken program ns main all valued labels (Y.DoOnce variable start condition body line) h fits
+  step_taken program ns main all valued labels (Y.DoCount counter start limit step condition body line) h fits =
+      plain_taken program ns main all valued labels (Y.DoCount counter start limit step condition body line) h fits
+  step_taken program ns main all valued labels (Y.Begin block) h fits =
+      plain_taken program ns main all valued labels (Y.Begin block) h fits
+  step_taken program ns main all valued labels (Y.Signal condition line) h fits =
+      plain_taken program ns main all valued labels (Y.Signal condition line) h fits
+  step_taken program ns main all valued labels (Y.Allocate items line) h fits =
+      plain_taken program ns main all valued labels (Y.Allocate items line) h fits
+  step_taken program ns main all valued labels (Y.Free items line) h fits =
+      plain_taken program ns main all valued labels (Y.Free items line) h fits
+  step_taken program ns main all valued labels (Y.Get skip pairs line) h fits =
+      plain_taken program ns main all valued labels (Y.Get skip pairs line) h fits
+  step_taken program ns main all valued labels (Y.Put skip pairs line) h fits =
+      plain_taken program ns main all valued labels (Y.Put skip pairs line) h fits
 
   pub steps_taken :
-      (program : Y.Program) (ns : List ℕ) (main : Y.BlockHead) (all : Y.Stmts) (labels : List Label)
-      (body : Y.Stmts) → are_steps program ns main all labels body ≡ true → statements_need body ≤ held_registers →
+      (program : Y.Program) (ns : List ℕ) (main : Y.BlockHead) (all : Y.Stmts) (valued : Bool) (labels : List Label)
+      (body : Y.Stmts) → are_steps program ns main all valued labels body ≡ true → statements_need body ≤ held_registers →
       Sets (statements_need body) (statements_set body) none_taken (stmts_take none_taken body)
-  steps_taken program ns main all labels (Y.EndOfList own) h fits = nothing_taken
-  steps_taken program ns main all labels (Y.StmtThen own first rest) h fits =
-      let a = and_parts (is_step program ns main all labels first) (are_steps program ns main all labels rest) h in
+  steps_taken program ns main all valued labels (Y.EndOfList own) h fits = nothing_taken
+  steps_taken program ns main all valued labels (Y.StmtThen own first rest) h fits =
+      let a = and_parts (is_step program ns main all valued labels first) (are_steps program ns main all valued labels rest) h in
       either_taken (statement_needs first) (statements_need rest) (statement_sets first) (statements_set rest)
       none_taken (stmt_takes none_taken first) (stmts_take none_taken rest)
-      (step_taken program ns main all labels first a.0 (omega (arith, fits)))
-      (steps_taken program ns main all labels rest a.1 (omega (arith, fits)))
+      (step_taken program ns main all valued labels first a.0 (omega (arith, fits)))
+      (steps_taken program ns main all valued labels rest a.1 (omega (arith, fits)))
 
 -- ---- blocks
 

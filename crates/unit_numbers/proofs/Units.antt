@@ -1,6 +1,6 @@
--- A unit of the main procedure: what the class says of it, and what of its frame.
-use Rattle.std.proofs.Common.{◌≡◌, ◌⊎◌, inl, inr, ℕ, ◌^◌, ◌<◌, ◌≤◌, List, [], ◌∷◌, ◌++◌, true, false, refl}
-use Rattle.std.proofs.Common.{sym, ap, ◌∙◌}
+-- A unit of a block that may establish some: what the class says of it, and what of its frame.
+use Rattle.std.proofs.Common.{◌≡◌, ◌⊎◌, inl, inr, ℕ, suc, ◌^◌, ◌<◌, ◌≤◌, List, [], ◌∷◌, ◌++◌, true, false, refl}
+use Rattle.std.proofs.Common.{ap, ◌∙◌}
 use Rattle.std.specs.Prelude.{◌&&◌, ◌==◌, Bool, nat_le}
 use Rattle.std.proofs.lemmas.Bool.{and_parts, eqb-true, leb-true, ltb-true, or_cases}
 use Rattle.pli_typing.specs.TypedTree as Y
@@ -67,7 +67,7 @@ fit_is program ns all caller unit valued body h =
 pub record Unit' (program : Y.Program) (ns : List ℕ) (main : Y.BlockHead) (all : Y.Stmts) (x : OnUnit) : Type 0 where
   pub line : x.line < 2 ^ 31
   pub begins : x.head.line < 2 ^ 31
-  pub level : x.head.level ≡ 1
+  pub level : x.head.level ≡ suc main.level
   pub later : main.number ≤ x.head.number
   pub bare : IsBare program x.head
   pub fit : Fit program ns all main true false x.body
@@ -92,17 +92,17 @@ unit_is program ns main all x h =
     let body = is_body_in program ns all main true false x.body in
     let five = bare && body in
     let four = nat_le main.number x.head.number && five in
-    let three = (x.head.level == 1) && four in
+    let three = (x.head.level == suc main.level) && four in
     let two = is_line x.head.line && three in
     let b = and_parts (is_line x.line) two h in
     let c = and_parts (is_line x.head.line) three b.1 in
-    let d = and_parts (x.head.level == 1) four c.1 in
+    let d = and_parts (x.head.level == suc main.level) four c.1 in
     let e = and_parts (nat_le main.number x.head.number) five d.1 in
     let f = and_parts bare body e.1 in
     record {
       line = ltb-true x.line (2 ^ 31) b.0;
       begins = ltb-true x.head.line (2 ^ 31) c.0;
-      level = eqb-true x.head.level 1 d.0;
+      level = eqb-true x.head.level (suc main.level) d.0;
       later = leb-true main.number x.head.number e.0;
       bare = bare_is program x.head x.head.kind refl f.0;
       fit = fit_is program ns all main true false x.body f.1;

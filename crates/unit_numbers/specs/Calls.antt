@@ -1,19 +1,16 @@
--- What such a program may call: procedures and functions without parameters that call one another, in which the main
--- procedure's units may be raised, too.
-use Rattle.std.specs.Prelude.{ℕ, zero, suc, ◌&&◌, ◌||◌, ◌==◌, Bool, true, false, List, [], ◌∷◌, ◌++◌, length, not}
-use Rattle.std.specs.Prelude.{None, Option, Some, if◌then◌else◌}
+-- What the blocks of such a program may name and call, and the units of a list.
+use Rattle.std.specs.Prelude.{ℕ, ◌&&◌, ◌||◌, ◌==◌, Bool, true, false, List, [], ◌∷◌, ◌++◌, not}
 use Rattle.std.specs.List.{list_any}
 use Rattle.pli_language.specs.declared.condition.Condition.{Condition}
 use Rattle.pli_language.specs.declared.condition.Condition.TheVariants as C
 use Rattle.pli_typing.specs.TypedTree as Y
 use Rattle.pli_meaning.specs.Control.{is_among}
-use Rattle.pli_meaning.specs.DeclaredShapes.{head_of, procedure_numbered}
 use Rattle.pli_meaning.specs.Executing.{labels_in}
 use Rattle.pli_meaning.specs.StorageState.{same_condition}
 use Rattle.program_places.specs.Programs.{environment_for}
 use Rattle.unit_runs.specs.Establishing.{OnUnit}
-use Rattle.number_runs.specs.Numbers.{Scope, has_none, no_names}
-use Rattle.number_headlines.specs.Programs.{body_of, is_body, is_callable, is_valued, numbers_of, places_to}
+use Rattle.number_runs.specs.Numbers.{Scope, no_names}
+use Rattle.number_headlines.specs.Programs.{is_body, is_callable, places_to}
 
 -- ---- the units of a list: of each ON in it, and in the groups, choices and loops of it
 
@@ -62,10 +59,10 @@ abbrev pub is_jumped_to : (caller : Y.BlockHead) → (unit : Bool) → (all : Y.
 is_jumped_to caller unit all = not unit && ((caller.level == 0) && has_jumps all)
 
 -- a block whose statements may name the variables that a block may name, and call what that may: itself, or the
--- main procedure, of which it is a unit. It may write numbers, or it writes none. The main procedure's own list, if
+-- procedure or function of which it is a unit. It may write numbers, or it writes none. The main procedure's own list, if
 -- units jump to its labels, writes nothing that raises a condition for which it has a unit, so that no place in a
 -- format list is in use there: nothing at all with a unit for ERROR, which writing raises. A unit doesn't return,
--- and may jump to the labels of that list.
+-- and one of the main procedure may jump to the labels of that list.
 abbrev pub scope_in :
     Y.Program → List ℕ → (all : Y.Stmts) → (caller : Y.BlockHead) → (unit writes : Bool) → Scope
 scope_in program ns all caller unit writes =
@@ -90,7 +87,9 @@ scope_in program ns all caller unit writes =
       elements = true;
       own = not unit;
       is_outer = λ level label.
-          unit && (has_jumps all && ((level == caller.level) && is_among label (labels_in all)));
+          unit
+          && (caller.level == 0
+          && (has_jumps all && ((level == caller.level) && is_among label (labels_in all))));
       signals = λ c. true;
       codes = true;
       returns = not unit;
@@ -104,34 +103,3 @@ abbrev pub is_body_in :
 is_body_in program ns all caller unit valued body =
     is_body (scope_in program ns all caller unit false) valued body
     || is_body (scope_in program ns all caller unit true) valued body
-
--- ---- what is called
-
-abbrev pub is_called : Y.Program → List ℕ → (all : Y.Stmts) → Y.Procedure → Bool
-is_called program ns all p =
-    has_none p.parameters && is_body_in program ns all (head_of p.block) false (is_valued p.result) (body_of p.block)
-
-abbrev pub is_called_if : Y.Program → List ℕ → (all : Y.Stmts) → Option Y.Procedure → Bool
-is_called_if program ns all None = false
-is_called_if program ns all (Some p) = is_called program ns all p
-
--- each of these numbers finds one that calls those
-abbrev pub are_called : Y.Program → (all : Y.Stmts) → (called : List ℕ) → List ℕ → Bool
-are_called program all called [] = true
-are_called program all called (n ∷ ns) =
-    is_called_if program called all (procedure_numbered n program.procedures) && are_called program all called ns
-
--- those that call only these
-abbrev pub kept_of : Y.Program → (all : Y.Stmts) → List ℕ → List Y.Procedure → List ℕ
-kept_of program all ns [] = []
-kept_of program all ns (p ∷ ps) =
-    if is_called program ns all p then (head_of p.block).number ∷ kept_of program all ns ps
-    else kept_of program all ns ps
-
--- after as many rounds as there are procedures, those that call only one another
-abbrev pub closed_of : Y.Program → (all : Y.Stmts) → (rounds : ℕ) → List ℕ → List ℕ
-closed_of program all zero ns = ns
-closed_of program all (suc rounds) ns = closed_of program all rounds (kept_of program all ns program.procedures)
-
-abbrev pub called_ones : Y.Program → (all : Y.Stmts) → List ℕ
-called_ones program all = closed_of program all (length program.procedures) (numbers_of program.procedures)

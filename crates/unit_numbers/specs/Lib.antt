@@ -1,5 +1,7 @@
 pub mod Calls
 pub mod Units
+pub mod Steps
+pub mod Called
 pub mod Programs
 pub mod Headlines
 pub mod Rows
@@ -16,3 +18,4 @@ pub mod RescueRows
 pub mod HaltRows
 pub mod TollRows
 pub mod PleadRows
+pub mod LodgeRows

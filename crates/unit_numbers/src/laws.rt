@@ -7,6 +7,7 @@ ghost use Rattle.unit_numbers.specs.GuardRows.{GuardKept};
 ghost use Rattle.unit_numbers.specs.HailRows.{HailKept};
 ghost use Rattle.unit_numbers.specs.HaltRows.{HaltKept};
 ghost use Rattle.unit_numbers.specs.Headlines.{UnitNumberHeadlinesKept};
+ghost use Rattle.unit_numbers.specs.LodgeRows.{LodgeKept};
 ghost use Rattle.unit_numbers.specs.MendRows.{MendKept};
 ghost use Rattle.unit_numbers.specs.PleadRows.{PleadKept};
 ghost use Rattle.unit_numbers.specs.RescueRows.{RescueKept};
@@ -123,6 +124,13 @@ pub fn toll_kept()
 /// A worked row: a unit for ERROR that is raised while a procedure writes, writes itself, and leaves both by a jump.
 pub fn plead_kept()
     ensures { PleadKept }
+{
+    unit_number_headlines_kept();
+}
+
+/// A worked row: a procedure's own unit, raised in another that it calls, and the main procedure's behind REVERT.
+pub fn lodge_kept()
+    ensures { LodgeKept }
 {
     unit_number_headlines_kept();
 }
