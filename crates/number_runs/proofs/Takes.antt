@@ -44,6 +44,7 @@ use Rattle.number_runs.proofs.Arrays.{element_is}
 use Rattle.number_runs.proofs.Based.{allocation_is, freeing_is, through_is}
 use Rattle.number_runs.proofs.Counters.{IsCounting, counting_is, counting_of, statement_is}
 use Rattle.number_runs.proofs.Unset.{number_unset, test_unset}
+use Rattle.number_runs.proofs.Narrow.{narrow_with_is}
 use Rattle.number_runs.proofs.Pointed.{by_pointed, compared_by}
 use Rattle.number_runs.proofs.Taking.{Fits, Sets, Takes, list_takes, one_more, scalar_takes, sets_either, sets_no_words}
 use Rattle.number_runs.proofs.Taking.{sets_none, sets_signed, sets_two, subscript_takes, takes_either, takes_next}
