@@ -43,7 +43,10 @@ use Rattle.number_runs.specs.Numbers.{is_plain_if, is_received}
 use Rattle.number_runs.specs.Variables.{words_in}
 use Rattle.number_runs.proofs.Narrow.{outer_narrow}
 use Rattle.number_runs.proofs.Words.{array_known, found, found_array, found_narrow, narrow_known, room_behind}
-use Rattle.number_headlines.specs.Programs.{is_begin_kind, places_to, receivers_of, scope_of}
+use Rattle.number_headlines.specs.Programs.{is_begin_kind, places_to, scope_of}
+use Rattle.number_headlines.proofs.Around.{received_parts, received_there}
+use Rattle.parameter_runs.specs.Around.{IsParameterAround}
+use Rattle.parameter_runs.proofs.Inner.{over_around}
 use Rattle.number_headlines.proofs.BeginSites.{Stands, around_it, begin_environment_for, begin_in, is_begin, run_begun}
 use Rattle.number_headlines.proofs.BeginSites.{set_in}
 use Rattle.number_headlines.proofs.BeginWords.{PassesNone, all_in, begin_room, own_in}
@@ -300,20 +303,34 @@ named_in {program} {m} {input} {acts} {more = more} {a = a} {p = p} {numbers = n
         let given = serial_given inner x o.begun is in
         own_named_in o x (number_declared there.initial) own there.is is (omega (arith, given, small))
 
--- it has no parameters
-none_received_in :
+-- its parameters are those of the block around it: it has none itself
+around_in :
     {program : Y.Program} {m : Main program} {input : List ℕ} {acts : ℕ} {valued : Bool} {more b : ℕ} {a : Running}
-    (z : Stands m input acts valued more b a) (x : Spot) →
-    is_received (scope_of program m.called z.head z.body) x ≡ true → ⊥
-none_received_in {program} z x h =
-    let head = z.head in
-    let rest = list_any (λ n. n == x.index) (parameters_of_block program x.block)
-    && is_parameter_if (declared_variable program (parameter_of x)) in
-    let some : (list_any (is_place x) (receivers_of program head) && rest) ≡ true = h in
-    cc (subst (λ qs.
-    (list_any (is_place x)
-    (if has_none qs then [] else record { number = head.number; level = head.level } ∷ []) && rest) ≡ true)
-    z.within.bare some)
+    {p : Point} {numbers : ℕ → ℕ} {z : Stands m input acts valued more b a} (o : At z p numbers) (x : Spot) →
+    is_received (scope_of program m.called z.head z.body) x ≡ true →
+    IsParameterAround (block_of_run program input acts false more (run_begun z p numbers)) x
+unfolding inner_over
+around_in {program} {m} {input} {acts} {more = more} {a = a} {p = p} {numbers = numbers} {z = z} o x h =
+    let r = received_parts program m.called z.head z.body x h in
+    by (stands_in z x r.0)
+  where
+    by :
+        ((x.level ≤ a.head.level)
+        × (list_any (is_place x) (places_to (environment_for program a.head) a.head.level) ≡ true))
+        ⊎ ((x.block ≡ z.head.number) × (x.level ≡ z.head.level)) →
+        IsParameterAround (block_of_run program input acts false more (run_begun z p numbers)) x
+    by (inl low) =
+        over_around {k = around_it z} {inner = block_of_run program input acts false more (run_begun z p numbers)}
+        {numbers = numbers} x
+        (inner_over (around_it z) z.labels (begin_in z) z.index more (is_begin z o.shallow) z.running.nested p numbers
+        o.among (made_at o) o.begun) z.running.nested z.running.begun o.among o.begun (omega arith) low.0 refl
+        (λ frame r listed. listed)
+        (z.running.parameters x (received_there program m.called z.head a.head z.body a.body x low.1 h))
+    by (inr own) =
+        let none : parameters_of_block program x.block ≡ [] =
+        ap (λ n. parameters_of_block program n) own.0 ∙ z.within.bare in
+        cc (subst (λ ns. list_any (λ n. n == x.index) ns ≡ true) none
+        (received_parts program m.called z.head z.body x h).1)
 
 -- ---- all of it
 
@@ -382,7 +399,7 @@ begun_entered {program} {m} {input} {acts} {more = more} {b = b} {a = a} {p = p}
         variables = λ y is. number_in o y is;
         arrays = λ y is. array_in o y is;
         narrows = λ y is. narrow_in o y is;
-        parameters = λ y is. absurd (none_received_in z y is);
+        parameters = λ y is. around_in o y is;
         named = λ y is. named_in o y is small;
         serials = small;
         unraised = λ c.

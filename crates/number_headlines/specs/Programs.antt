@@ -6,6 +6,7 @@ use Rattle.pli_typing.specs.TypedTree as Y
 use Rattle.pli_meaning.specs.DeclaredShapes.{head_of, procedure_numbered, variables_of_block}
 use Rattle.pli_meaning.specs.Executing.{labels_in}
 use Rattle.pli_coding.specs.Environments.{BlockPlace, Environment, block_around}
+use Rattle.pli_coding.specs.Frames.{parameters_of_block}
 use Rattle.pli_coding.specs.Registers.{held_registers}
 use Rattle.pli_coding.specs.SignatureTable.{with_signatures}
 use Rattle.program_places.specs.Programs.{environment_for}

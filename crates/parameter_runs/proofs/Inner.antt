@@ -171,7 +171,7 @@ same_number e f x program =
     ap (λ y. number_of_parameter (record e { program = y }) (parameter_of x)) program
 
 -- the layers below the new one have the lists that those of the block had
-over_around :
+pub over_around :
     {k inner : Block} {level : ℕ} {numbers : ℕ → ℕ} {p : Point} (x : Spot) (i : Over k inner level p) → IsNested k →
     IsBegun k → IsAmong k numbers p → IsBegun inner → level ≤ k.environment.level → x.level ≤ level →
     inner.environment.program ≡ k.environment.program →
