@@ -1,5 +1,6 @@
--- What the worked row's program comes to.
+-- What the worked rows' programs come to.
 use Rattle.std.proofs.Common.{◌≡◌, ℕ, List, [], ◌∷◌, Some, refl}
+use Rattle.pli_language.specs.declared.condition.Condition.TheVariants as C
 use Rattle.pli_meaning.specs.declared.outcome.End.TheVariants as E
 use Rattle.pli_meaning.specs.Control as F
 use Rattle.pli_meaning.specs.Evaluating as V
@@ -9,6 +10,7 @@ use Rattle.pli_meaning.specs.Placing as P
 use Rattle.pli_meaning.specs.Raising as R
 use Rattle.pli_meaning.specs.Streaming as T
 use Rattle.offset_headlines.specs.Rows.{twin_program}
+use Rattle.offset_headlines.specs.Strays.{miss_program, stray_program}
 
 unfoldable flows : Unit {0}
 unfolding F.give F.◌>>=◌ F.◌>>◌ F.looked F.stored F.act F.finish F.returns F.jumps F.choose F.given F.list_from
@@ -49,3 +51,17 @@ pub twin_ends :
     })
 unfolding M.meaning M.run M.entered M.block_run flows values placings makings writings statements
 twin_ends input = refl
+
+pub miss_ends :
+    (input : List ℕ) →
+    M.meaning miss_program input 7
+    ≡ Some (record { acts = 7; output = []; raised = (C.Error, 101) ∷ []; end = E.Error 101 6 })
+unfolding M.meaning M.run M.entered M.block_run flows values placings makings writings statements
+miss_ends input = refl
+
+pub stray_ends :
+    (input : List ℕ) →
+    M.meaning stray_program input 9
+    ≡ Some (record { acts = 9; output = []; raised = (C.Error, 110) ∷ []; end = E.Error 110 8 })
+unfolding M.meaning M.run M.entered M.block_run flows values placings makings writings statements
+stray_ends input = refl

@@ -1,4 +1,6 @@
 pub mod Placed
 pub mod Known
 pub mod Rows
+pub mod Misses
+pub mod Strays
 pub mod Ends

@@ -117,7 +117,7 @@ free_words z =
       waits = z.given.waits;
     }
 
-words_room : (at : ℕ) → IsFrame at → (2 ^ 22 ≤ at - 16) × (at - 16 + 16 ≤ memory_size)
+pub words_room : (at : ℕ) → IsFrame at → (2 ^ 22 ≤ at - 16) × (at - 16 + 16 ≤ memory_size)
 words_room at h =
     let high = h.high in
     let room = h.room in

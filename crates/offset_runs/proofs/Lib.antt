@@ -15,3 +15,6 @@ pub mod WaitingNames
 pub mod AddressAnswers
 pub mod AddressRuns
 pub mod Addresses
+pub mod LocatedCode
+pub mod LocatedRuns
+pub mod LocatedReads

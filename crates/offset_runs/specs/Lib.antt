@@ -2,3 +2,4 @@ pub mod Offsets
 pub mod OffsetAssignments
 pub mod OffsetPointers
 pub mod OffsetAddresses
+pub mod OffsetReferences

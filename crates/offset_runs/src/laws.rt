@@ -3,6 +3,7 @@
 ghost use Rattle.offset_runs.specs.OffsetAddresses.{AddressGiven};
 ghost use Rattle.offset_runs.specs.OffsetAssignments.{OffsetAssigned, OffsetKept};
 ghost use Rattle.offset_runs.specs.OffsetPointers.{PointerFromOffset};
+ghost use Rattle.offset_runs.specs.OffsetReferences.{NumberByOffset};
 ghost use Rattle.offset_runs.specs.Offsets.{OffsetsCompared, OffsetsGiven};
 
 /// NULL, an OFFSET variable and an OFFSET member leave what they mean in a register.
@@ -34,4 +35,9 @@ pub fn pointer_from_offset()
 /// area, ERROR ends the run.
 pub fn address_given()
     ensures { AddressGiven }
+{}
+
+/// A number that is a member of what an offset names leaves what it means in a register if the offset does.
+pub fn number_by_offset()
+    ensures { NumberByOffset }
 {}
