@@ -30,7 +30,7 @@ use Rattle.area_runs.proofs.BasedCode.{name_at_place}
 use Rattle.locator_runs.proofs.FourParts.{PartGoes, four_go}
 use Rattle.locator_runs.proofs.NameTests.{word_small}
 use Rattle.locator_runs.proofs.NameWrites.{word_of}
-use Rattle.member_runs.specs.MemberPointers.{nulling}
+use Rattle.member_runs.specs.NullMembers.{nulling}
 use Rattle.member_runs.specs.Members.{IsMember, structure_declared}
 use Rattle.member_runs.proofs.Links.{given_code}
 use Rattle.member_runs.proofs.MemberCode.{found_code, found_coded}

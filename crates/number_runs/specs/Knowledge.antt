@@ -51,7 +51,8 @@ use Rattle.area_assignments.specs.Emptying.{emptying}
 use Rattle.area_freeings.specs.Freeing.{freeing}
 use Rattle.locator_runs.specs.Pointers.{IsPointer}
 use Rattle.member_runs.specs.MemberAssignments as M
-use Rattle.member_runs.specs.MemberPointers.{following, linking, nulling}
+use Rattle.member_runs.specs.MemberPointers.{following, linking}
+use Rattle.member_runs.specs.NullMembers.{nulling}
 use Rattle.member_runs.specs.Members.{member_of}
 use Rattle.scalar_runs.specs.Scalars.{IsScalar}
 use Rattle.number_runs.specs.Numbers.{Scope, bounds_known, is_array_known, is_known, is_narrow_known, is_received}
