@@ -140,6 +140,7 @@ ready_told {s} {k = k} r c none waits behind free =
         jumps = l.jumps;
         texts = l.texts;
         signals = l.signals;
+        reached = l.reached;
         puts = l.puts;
       };
       room = r.room;
@@ -228,6 +229,7 @@ ready_unlocated r =
         jumps = l.jumps;
         signals = l.signals;
         texts = λ waits may'. around_unlocated (l.texts waits may');
+        reached = λ waits may'. absurd (cc may');
         puts = λ waits may'. l.puts waits may';
       };
       room = r.room;

@@ -123,6 +123,7 @@ ready m h ih more blocks c o os a own few clear home knows told =
         jumps = λ waits. (told waits).jumps;
         texts = λ waits may. absurd (cc may);
         signals = λ waits. (told waits).signals;
+        reached = λ waits may'. absurd (cc may');
         puts = λ waits. (told waits).puts;
       };
       room = omega arith;
