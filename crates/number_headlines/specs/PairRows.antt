@@ -1,4 +1,5 @@
--- A worked row: a program of the class that links a structure in one area to one in another, and follows the link.
+-- A worked row: a program of the class that links a structure in one area to one in another, follows the link, and calls
+-- a function with what each has.
 use Rattle.std.specs.Prelude.{ℕ, ◌≡◌, List, [], ◌∷◌, Some, None, pos, false, true}
 use Rattle.pli_language.specs.Tree as T
 use Rattle.pli_typing.specs.TypedTree as Y
@@ -9,6 +10,8 @@ use Rattle.pli_coding.specs.SignatureTable.{table_of}
 use Rattle.expression_runs.specs.Assignments.{assignment}
 use Rattle.expression_runs.specs.Variables.{Spot, number_declared, whole}
 use Rattle.scalar_runs.specs.Scalars.{scalar_declared, scalar_leaf}
+use Rattle.function_runs.specs.Returns.{return_of}
+use Rattle.argument_runs.specs.Parameters.{parameter, parameter_declared}
 use Rattle.area_runs.specs.Allocations.{allocation}
 use Rattle.area_runs.specs.Based.{pointer_declared}
 use Rattle.locator_runs.specs.Comparisons.{comparison}
@@ -17,10 +20,13 @@ use Rattle.member_runs.specs.MemberPointers.{following, linking}
 use Rattle.member_runs.specs.Members.{member_of, structure_declared}
 use Rattle.member_runs.specs.NullMembers.{nulling}
 use Rattle.pli_headline.specs.Headline.{Headline, parts}
+use Rattle.list_calls.specs.Arguments.{ByValue}
+use Rattle.number_runs.specs.Knowledge.{given_number}
 
+-- SQUARE: PROCEDURE (N) RETURNS(FIXED BINARY(31)); DECLARE N FIXED BINARY(31); RETURN (N * N); END SQUARE;
 -- DECLARE (A, B) AREA(128), (P, Q) POINTER, 1 N BASED, 2 NX POINTER, 2 V FIXED BINARY(31), X FIXED BINARY(31);
 -- ALLOCATE N SET(P) IN(A); ALLOCATE N SET(Q) IN(B); P->V = 3; Q->V = 4; P->NX = Q; Q->NX = NULL(); X = 0;
--- DO WHILE (P ^= NULL()); X = X * 10 + P->V; P = P->NX; END; IF P = Q THEN X = 0; PUT EDIT (X) (F(3));
+-- DO WHILE (P ^= NULL()); X = X * 10 + SQUARE(P->V); P = P->NX; END; IF P = Q THEN X = 0; PUT EDIT (X) (F(3));
 
 abbrev pub first_spot : Spot
 first_spot = record { block = 1; level = 0; index = 0 }
@@ -64,8 +70,16 @@ number_value = Y.NumberIn (whole number_spot)
 abbrev pub pair_value : Y.Number
 pair_value = Y.NumberIn (member_of pointer_spot pair_spot value_member)
 
+abbrev pub square_spot : Spot
+square_spot = record { block = 2; level = 1; index = 0 }
+
+abbrev pub square_value : Y.Number
+square_value = Y.NumberIn (parameter square_spot)
+
 abbrev pub pair_sum : Y.Number
-pair_sum = Y.Calculated Y.Sum (Y.Calculated Y.Product number_value (Y.NumberConstant 10)) pair_value
+pair_sum =
+    Y.Calculated Y.Sum (Y.Calculated Y.Product number_value (Y.NumberConstant 10))
+    (given_number 0 2 (ByValue pair_value ∷ []))
 
 abbrev pub pair_turns : Y.Stmts
 pair_turns =
@@ -103,6 +117,17 @@ pair_head = record { kind = Y.ProcedureBlock; number = 1; level = 0; line = 1 }
 abbrev pub pair_main : Y.Procedure
 pair_main = record { block = Y.BlockOf pair_head pair_body; parameters = []; result = None }
 
+abbrev pub square_body : Y.Stmts
+square_body =
+    Y.StmtThen [] (return_of (Y.Calculated Y.Product square_value square_value) 2) (Y.EndOfList [])
+
+abbrev pub square_head : Y.BlockHead
+square_head = record { kind = Y.ProcedureBlock; number = 2; level = 1; line = 2 }
+
+abbrev pub square_function : Y.Procedure
+square_function =
+    record { block = Y.BlockOf square_head square_body; parameters = 0 ∷ []; result = Some (Y.FixedLeaf 31) }
+
 abbrev pub pair_program : Y.Program
 pair_program =
     record {
@@ -110,14 +135,14 @@ pair_program =
           []
           ∷ (area_declared ∷ area_declared ∷ pointer_declared ∷ pointer_declared
           ∷ structure_declared pair_members pair_leaves ∷ number_declared [] ∷ [])
-          ∷ [];
-      procedures = pair_main ∷ [];
+          ∷ (parameter_declared ∷ []) ∷ [];
+      procedures = pair_main ∷ square_function ∷ [];
     }
 
 pub record PairKept : Type 0 where
   pub headline : Headline pair_program (picture_of parts pair_program) (table_of pair_program)
-  -- 34 is written
+  -- 106 is written
   pub ends :
       (input : List ℕ) →
-      meaning pair_program input 20
-      ≡ Some (record { acts = 20; output = 32 ∷ 51 ∷ 52 ∷ 10 ∷ []; raised = []; end = E.Finished })
+      meaning pair_program input 24
+      ≡ Some (record { acts = 24; output = 49 ∷ 48 ∷ 54 ∷ 10 ∷ []; raised = []; end = E.Finished })

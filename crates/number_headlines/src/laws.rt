@@ -133,7 +133,8 @@ pub fn chain_kept()
     number_headlines_kept();
 }
 
-/// A worked row with two areas: a structure in one is linked to one in the other, and the link is followed.
+/// A worked row with two areas: a structure in one is linked to one in the other, the link is followed, and a function
+/// is called with what each has.
 pub fn pair_kept()
     ensures { PairKept }
 {
