@@ -1,5 +1,5 @@
 -- A member that is assigned NULL: the code of it, and how NULL comes to wait in the words below the frame.
-use Rattle.std.proofs.Common.{◌≡◌, ℕ, zero, suc, ◌+◌, ◌*◌, ◌≤◌, ◌<◌, List, ◌++◌}
+use Rattle.std.proofs.Common.{◌≡◌, ℕ, zero, suc, ◌+◌, ◌*◌, List, ◌++◌}
 use Rattle.std.proofs.Common.{Some, true, refl, sym, ap, ◌∙◌, subst, arith}
 use Rattle.std.specs.Prelude.{negsuc, ◌==◌}
 use Rattle.pli_typing.specs.TypedTree as Y

@@ -16,8 +16,8 @@ use Rattle.member_runs.specs.Members.{IsMember, IsStructure, member_of}
 abbrev pub nulling : (pointer based : Spot) → (member line : ℕ) → Y.Stmt
 nulling p n member line = Y.Assign (member_of p n member) (Y.StoredPointer Y.NullPointer) line
 
--- where it stands, and that one act pays for it. NULL waits in four words of the frame, in which nothing else does, while
--- the member is found; where what is pointed to doesn't live ERROR ends the run.
+-- where it stands, and that one act pays for it. NULL waits in four words of the frame, in which nothing else does,
+-- while the member is found; where what is pointed to doesn't live ERROR ends the run.
 pub record IsNulling (k : Block) (labels : List Label) (p n : Spot) (members : List Y.Member) (leaves : List Y.Leaf)
     (member line index most : ℕ) : Type 0
   where

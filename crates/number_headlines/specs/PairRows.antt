@@ -1,5 +1,5 @@
--- A worked row: a program of the class that links a structure in one area to one in another, follows the link, and calls
--- a function with what each has.
+-- A worked row: a program of the class that links a structure in one area to one in another, follows the link, and
+-- calls a function with what each has.
 use Rattle.std.specs.Prelude.{ℕ, ◌≡◌, List, [], ◌∷◌, Some, None, pos, false, true}
 use Rattle.pli_language.specs.Tree as T
 use Rattle.pli_typing.specs.TypedTree as Y
