@@ -1,5 +1,5 @@
 -- A member that is assigned NULL: the code of it, and how NULL comes to wait in the words below the frame.
-use Rattle.std.proofs.Common.{◌≡◌, ℕ, zero, suc, ◌+◌, ◌*◌, ◌≤◌, ◌<◌, List, ◌++◌}
+use Rattle.std.proofs.Common.{◌≡◌, ℕ, zero, suc, ◌+◌, ◌*◌, List, ◌++◌}
 use Rattle.std.proofs.Common.{Some, true, refl, sym, ap, ◌∙◌, subst, arith}
 use Rattle.std.specs.Prelude.{negsuc, ◌==◌}
 use Rattle.pli_typing.specs.TypedTree as Y
@@ -30,7 +30,7 @@ use Rattle.area_runs.proofs.BasedCode.{name_at_place}
 use Rattle.locator_runs.proofs.FourParts.{PartGoes, four_go}
 use Rattle.locator_runs.proofs.NameTests.{word_small}
 use Rattle.locator_runs.proofs.NameWrites.{word_of}
-use Rattle.member_runs.specs.MemberPointers.{nulling}
+use Rattle.member_runs.specs.NullMembers.{nulling}
 use Rattle.member_runs.specs.Members.{IsMember, structure_declared}
 use Rattle.member_runs.proofs.Links.{given_code}
 use Rattle.member_runs.proofs.MemberCode.{found_code, found_coded}

@@ -35,7 +35,7 @@ use Rattle.expression_runs.proofs.VariablePoints.{first_base}
 use Rattle.area_runs.proofs.BasedCode.{name_at_place}
 use Rattle.area_runs.proofs.ChangedPoints.{generation_world}
 use Rattle.locator_runs.proofs.PointerPoints.{PointerAt, pointer_in}
-use Rattle.member_runs.specs.MemberPointers.{IsNulling, nulling}
+use Rattle.member_runs.specs.NullMembers.{IsNulling, nulling}
 use Rattle.member_runs.specs.Members.{member_of, member_part, structure_shape}
 use Rattle.member_runs.proofs.Links.{given_code, given_reaches}
 use Rattle.member_runs.proofs.MemberAssignments.{assigned_found}

@@ -1,4 +1,5 @@
 pub mod Members
 pub mod MemberAssignments
 pub mod MemberPointers
+pub mod NullMembers
 pub mod Allocations

@@ -1,5 +1,4 @@
--- POINTER variables that are assigned what a member holds, and members that are assigned what a POINTER variable holds,
--- or NULL.
+-- POINTER variables that are assigned what a member holds, and members that are assigned what a POINTER variable holds.
 -- (X3.53-1976, chapter 7, assignment.)
 use Rattle.std.specs.Prelude.{ℕ, ◌+◌, ◌≤◌, ◌≡◌, List, ◌∷◌, None}
 use Rattle.pli_typing.specs.TypedTree as Y
@@ -73,33 +72,3 @@ MemberLinked =
     (k : Block) (labels : List Label) (p n y : Spot) (members : List Y.Member) (leaves : List Y.Leaf)
     (member line index left' most : ℕ) → IsLinking k labels p n y members leaves member line index most →
     Does k labels (linking p n member y line) index left'
-
--- ---- a member that is assigned NULL
-
-abbrev pub nulling : (pointer based : Spot) → (member line : ℕ) → Y.Stmt
-nulling p n member line = Y.Assign (member_of p n member) (Y.StoredPointer Y.NullPointer) line
-
--- where it stands, as where it is linked
-pub record IsNulling (k : Block) (labels : List Label) (p n : Spot) (members : List Y.Member) (leaves : List Y.Leaf)
-    (member line index most : ℕ) : Type 0
-  where
-    pub act : HasAct k line
-    pub structure : IsStructure k p n members leaves
-    pub own : IsMember leaves member Y.PointerLeaf
-    pub ends : Ends (setting_of k labels line most)
-    pub layer : Layer
-    pub others : List Layer
-    pub layers : k.first.control.layers ≡ layer ∷ others
-    pub words : 4 ≤ layer.words
-    pub waits : (i : ℕ) → layer.waits i ≡ None
-    pub statement :
-        Linked k.call.surroundings.links k.call.code index
-        (stmt_code k.environment none_taken (nulling p n member line))
-    pub paid : size_in k (nulling p n member line) + most ≤ cost k.call.code
-
--- it does what it means
-abbrev pub MemberNulled : Type 0
-MemberNulled =
-    (k : Block) (labels : List Label) (p n : Spot) (members : List Y.Member) (leaves : List Y.Leaf)
-    (member line index left' most : ℕ) → IsNulling k labels p n members leaves member line index most →
-    Does k labels (nulling p n member line) index left'

@@ -3,7 +3,8 @@
 ghost use Rattle.member_runs.specs.Allocations.{StructureAllocated};
 ghost use Rattle.member_runs.specs.MemberAssignments.{MemberAssigned};
 ghost use Rattle.member_runs.specs.Members.{MemberRead};
-ghost use Rattle.member_runs.specs.MemberPointers.{MemberFollowed, MemberLinked, MemberNulled};
+ghost use Rattle.member_runs.specs.MemberPointers.{MemberFollowed, MemberLinked};
+ghost use Rattle.member_runs.specs.NullMembers.{MemberNulled};
 
 /// A number that is a member of what a pointer variable points to leaves what it means in a register.
 pub fn member_read()

@@ -18,7 +18,10 @@ use Rattle.program_runs.specs.Calls.{left_over}
 use Rattle.program_runs.specs.Statements.{Block}
 use Rattle.expression_runs.specs.Assignments.{setting_around}
 use Rattle.expression_runs.specs.Variables.{Spot}
-use Rattle.area_runs.specs.Based.{Ends, based_of}
+use Rattle.counter_runs.specs.Words.{telling}
+use Rattle.counter_runs.proofs.Known.{known_told}
+use Rattle.counter_runs.proofs.Words.{begun_telling}
+use Rattle.area_runs.specs.Based.{Ends, based_of, pointer_declared}
 use Rattle.area_assignments.proofs.Copying.{copy_does}
 use Rattle.area_assignments.proofs.Emptying.{empty_does}
 use Rattle.edit_runs.specs.Edits.{placing, within}
@@ -33,7 +36,7 @@ use Rattle.member_runs.proofs.NewStatements.{allocate_does}
 use Rattle.member_runs.proofs.NullStatements.{null_does}
 use Rattle.member_freeings.proofs.Freeing.{free_does}
 use Rattle.number_runs.specs.Based.{has_member_if, is_based, is_based_if, is_pointer_type, is_word_type}
-use Rattle.number_runs.specs.Knowledge.{IsUnraised, KnowsBased, KnowsPlaced}
+use Rattle.number_runs.specs.Knowledge.{IsUnraised, KnowsBased, KnowsPlaced, KnowsReached}
 use Rattle.number_runs.specs.Numbers.{is_pointer_known}
 use Rattle.number_runs.specs.Statements.{statements_set}
 use Rattle.number_runs.specs.Variables.{AreTabled, IsTabled}
@@ -187,6 +190,60 @@ placed_known {program} m input acts valued more a blocks e u =
           let d = f.all.declared in
           member_does (within place (setting_around words k labels line (most_for program))) p n d.members d.leaves i
           (structure_placed k place p n d.members d.leaves
+          (leads_to m input acts valued more a blocks e p n known f.all)) f.member
+          (record { routines = u.routines; raises = u.place; error = u.error; acts = u.acts; most = u.few }) refl;
+    }
+
+-- and whatever waits in the words of the newest layer
+told_pointer :
+    (k : Block) (φ : Layer) (φs : List Layer) (waits : ℕ → Option ℕ) → k.first.control.layers ≡ φ ∷ φs → (x : Spot) →
+    IsPointer k x → IsPointer (telling waits φ φs k) x
+told_pointer k φ φs waits newest x is =
+    record {
+      begun = begun_telling k φ φs waits newest is.begun;
+      known = known_told k φ φs waits newest x pointer_declared is.known;
+      own = is.own;
+    }
+
+told_structure :
+    (k : Block) (φ : Layer) (φs : List Layer) (waits : ℕ → Option ℕ) → k.first.control.layers ≡ φ ∷ φs → (p n : Spot)
+    (ms : List Y.Member) (ls : List Y.Leaf) → IsStructure k p n ms ls → IsStructure (telling waits φ φs k) p n ms ls
+told_structure k φ φs waits newest p n ms ls is =
+    record {
+      pointer = told_pointer k φ φs waits newest p is.pointer;
+      declared = is.declared;
+      meant = is.meant;
+      plain = is.plain;
+      signature = is.signature;
+      table = is.table;
+      number = is.number;
+      numbered = is.numbered;
+      low = is.low;
+    }
+
+pub told_reached :
+    {program : Y.Program} (m : Main program) (input : List ℕ) (acts : ℕ) (valued : Bool) (more : ℕ) (a : Running)
+    (blocks : ℕ) (e : IsEntered m input acts valued more a blocks) →
+    IsUnraised (block_of_run program input acts valued more a) (most_for program) → (waits : ℕ → Option ℕ)
+    (words : ℕ) (labels : List Label) (line : ℕ) →
+    KnowsReached (scope_of program m.called a.head a.body)
+    (setting_around words
+    (telling waits e.running.free.layer e.running.free.below (block_of_run program input acts valued more a)) labels
+    line (most_for program))
+told_reached {program} m input acts valued more a blocks e u waits words labels line =
+    let k = block_of_run program input acts valued more a in
+    let free = e.running.free in
+    record {
+      pointers = λ x known.
+          told_pointer k free.layer free.below waits free.newest x
+          (points m input acts valued more a blocks e x known);
+      reads = λ p n i known declared.
+          let f = found_number i (declared_variable program (based_of n)) declared in
+          let d = f.all.declared in
+          member_does
+          (setting_around words (telling waits free.layer free.below k) labels line (most_for program)) p n d.members
+          d.leaves i
+          (told_structure k free.layer free.below waits free.newest p n d.members d.leaves
           (leads_to m input acts valued more a blocks e p n known f.all)) f.member
           (record { routines = u.routines; raises = u.place; error = u.error; acts = u.acts; most = u.few }) refl;
     }

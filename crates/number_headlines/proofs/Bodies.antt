@@ -60,7 +60,7 @@ use Rattle.number_headlines.proofs.ListBodies.{knows_given}
 use Rattle.number_headlines.proofs.Inner.{Inner, inner_none}
 use Rattle.number_headlines.proofs.Mains.{Main, most_for, result_of, run_for}
 use Rattle.number_headlines.proofs.Puts.{constants_known, error_routine, lists_known}
-use Rattle.number_headlines.proofs.Based.{based_known, placed_known}
+use Rattle.number_headlines.proofs.Based.{based_known, placed_known, told_reached}
 use Rattle.number_headlines.proofs.Running.{EachBody, EachGiven, IsEntered, IsRunning, Running, block_of_run, told_run}
 use Rattle.number_headlines.proofs.Running.{told_running, waited_running, IsCalledForm, environment_of_run}
 use Rattle.number_headlines.proofs.BeginBodies.{knows_begins}
@@ -269,6 +269,9 @@ ready once {program} m input acts valued more a blocks few e calls given begins 
             (told_running h waits) calls;
         signals = λ waits.
             signals_of once m input acts valued more (told_run a waits φ φs) blocks few (told_running h waits);
+        reached = λ waits may words' less labels line includes.
+            told_reached m input acts valued more a blocks e (unraised_of once m input acts valued more a blocks few h)
+            waits words' labels line;
         puts = λ waits may.
             told_puts once m input acts valued more (told_run a waits φ φs) blocks few (told_running h waits);
       };

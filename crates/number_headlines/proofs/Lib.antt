@@ -43,6 +43,7 @@ pub mod GatheredRows
 pub mod TextRows
 pub mod AreaRows
 pub mod ChainRows
+pub mod PairRows
 pub mod PowerRows
 pub mod InitialRows
 pub mod EuclidRows

@@ -17,6 +17,7 @@ ghost use Rattle.number_headlines.specs.LentRows.{LentKept};
 ghost use Rattle.number_headlines.specs.LoopRows.{LoopsKept};
 ghost use Rattle.number_headlines.specs.HolderRows.{HolderKept};
 ghost use Rattle.number_headlines.specs.NestRows.{NestKept};
+ghost use Rattle.number_headlines.specs.PairRows.{PairKept};
 ghost use Rattle.number_headlines.specs.PowerRows.{PowerKept};
 ghost use Rattle.number_headlines.specs.PutRows.{SquaresKept};
 ghost use Rattle.number_headlines.specs.Rows.{TotalKept};
@@ -131,6 +132,14 @@ pub fn gather_kept()
 /// A worked row with a list: structures are linked in an area by way of pointers, walked, written and freed.
 pub fn chain_kept()
     ensures { ChainKept }
+{
+    number_headlines_kept();
+}
+
+/// A worked row with two areas: a structure in one is linked to one in the other, the link is followed, and a function
+/// is called with what each has.
+pub fn pair_kept()
+    ensures { PairKept }
 {
     number_headlines_kept();
 }

@@ -59,7 +59,7 @@ use Rattle.number_runs.specs.Numbers.{is_argument, is_element, is_fixed, is_give
 use Rattle.number_runs.specs.Numbers.{is_variable, may_calculate, number_needs, number_sets, numbers_need}
 use Rattle.number_runs.specs.Numbers.{numbers_set, reference_needs, reference_sets, test_needs, test_sets, type_known}
 use Rattle.number_runs.specs.Numbers.{is_narrow_with, is_wider, is_precision, is_text, text_needs, without_given}
-use Rattle.number_runs.specs.Numbers.{IsBare, is_known, is_passed, is_received, without_located}
+use Rattle.number_runs.specs.Numbers.{IsBare, is_known, is_passed, is_received}
 use Rattle.number_runs.specs.Based.{is_word_type}
 use Rattle.number_runs.specs.Narrow.{is_number_type, is_text_type}
 use Rattle.number_runs.proofs.Arrays.{element_is, subscript_given}
@@ -69,7 +69,7 @@ use Rattle.number_runs.proofs.Received.{named_told, passable_told, stored_untold
 use Rattle.number_runs.proofs.Variables.{Names, Passable, parameter_is, variable_is, ways_are, ways_many, ways_of}
 use Rattle.number_runs.proofs.Variables.{ways_stored}
 use Rattle.number_runs.proofs.Turns.{telling_same}
-use Rattle.number_runs.proofs.Waiting.{numbers_wait, numbers_without, texts_without, texts_unlocated}
+use Rattle.number_runs.proofs.Waiting.{numbers_wait, numbers_without, texts_without}
 use Rattle.number_runs.proofs.Based.{through_is}
 use Rattle.number_runs.proofs.Pointed.{compared_does}
 
@@ -186,11 +186,11 @@ name_free last serial signature all told free inside =
     (omega (arith, inside)))
     (omega (arith, inside))
 
--- whatever words tell as much is known, but of nothing that is BASED
+-- whatever words tell as much is known
 abbrev numbers_told :
     (s : Scope) → (k : Setting) → KnowsNumbers s k → (g : KnowsGiven s k) → (words : ℕ) → words ≤ most_set →
     (waits : ℕ → Option ℕ) → IsFree waits words →
-    KnowsNumbers (without_located s) (setting_told k words waits g.layer g.others)
+    KnowsNumbers s (setting_told k words waits g.layer g.others)
 numbers_told s k h g words few waits free =
     record {
       begun = begun_telling k.block g.layer g.others waits g.newest h.begun;
@@ -205,7 +205,7 @@ numbers_told s k h g words few waits free =
       parameters = λ x is. around_told k.block g.layer g.others waits g.newest x (h.parameters x is);
       codes = h.codes;
       functions = λ level n is. g.functions words few waits level n is;
-      texts = λ may. texts_unlocated (g.texts may words few waits);
+      texts = λ may. g.texts may words few waits;
       given = λ may. record {
         layer = with_waits waits g.layer;
         others = g.others;
@@ -217,13 +217,14 @@ numbers_told s k h g words few waits free =
         subscript = g.subscript;
         passable = λ x is. passable_told k.block g.layer g.others waits g.newest x (g.passable x is);
         functions = g.functions;
-        texts = λ may' words' few' waits'. texts_unlocated (g.texts may' words' few' waits');
+        texts = g.texts;
+        reached = g.reached;
         given = λ words' waits' level n need ways some stored free' room is give.
             g.given words' waits' level n need ways some
             (stored_untold waits g.layer g.others k.block.first ways stored) free' room is give;
       };
-      pointers = λ may. absurd (cc may);
-      located = λ may. absurd (cc may);
+      pointers = λ may. (g.reached may words few waits).pointers;
+      located = λ may. (g.reached may words few waits).reads;
     }
 
 -- what it is if it is no scalar of fewer bits
@@ -294,7 +295,7 @@ parameter_passable s k h g x known =
 
 -- what may be an argument by reference may be passed
 pub names_in : (s : Scope) (k : Setting) → KnowsNumbers s k → (g : KnowsGiven s k) →
-    Names (without_located s) k g.layer g.others
+    Names s k g.layer g.others
 names_in s k h g r is = by (or_cases (is_variable s r) (is_given s r) is)
   where
     by : (is_variable s r ≡ true) ⊎ (is_given s r ≡ true) → Passable k g.layer g.others r
@@ -310,30 +311,29 @@ called_does :
     (s : Scope) (k : Setting) (number level : ℕ) (xs : Y.Arguments) (h : KnowsNumbers s k) →
     is_number s (Y.NumberFrom (Y.Calling number level xs)) ≡ true → HasLists h (call_sets (Y.Calling number level xs)) →
     ((g : KnowsGiven s k) (words all : ℕ) (waits told : ℕ → Option ℕ)
-    (is : are_arguments (without_located s) xs ≡ true) →
-    words + argument_words * length (ways_of (without_located s) (names_in s k h g) xs is) ≤ all →
+    (is : are_arguments s xs ≡ true) →
+    words + argument_words * length (ways_of s (names_in s k h g) xs is) ≤ all →
     all + arguments_set xs ≤ g.layer.words → IsFree told all →
     EachGives (setting_told k words waits g.layer g.others) (arguments_need xs) (with_waits waits g.layer) g.others
     words
-    all told (ways_of (without_located s) (names_in s k h g) xs is)) →
+    all told (ways_of s (names_in s k h g) xs is)) →
     Does k (arguments_need xs) (Y.NumberFrom (Y.Calling number level xs))
 called_does s k number level Y.NoArgument h is room give = h.functions level number is
 called_does s k number level (Y.ArgumentThen first rest) h is room give =
     let xs = Y.ArgumentThen first rest in
-    let u = without_located s in
     let taken = s.is_given_function (suc (argument_count rest)) level number in
-    let a = and_parts (gives_lists s) (taken && are_arguments u xs) is in
-    let b = and_parts taken (are_arguments u xs) a.1 in
+    let a = and_parts (gives_lists s) (taken && are_arguments s xs) is in
+    let b = and_parts taken (are_arguments s xs) a.1 in
     let g = h.given a.0 in
     let names = names_in s k h g in
-    let ways = ways_of u names xs b.1 in
-    let many = ways_many u names xs b.1 in
+    let ways = ways_of s names xs b.1 in
+    let many = ways_many s names xs b.1 in
     let enough = room a.0 in
     let need = arguments_need xs in
-    subst (λ q. Does k need (Y.NumberFrom (Y.Calling number level q))) (ways_are u names xs b.1)
+    subst (λ q. Does k need (Y.NumberFrom (Y.Calling number level q))) (ways_are s names xs b.1)
     (subst (λ q. Does q need (given_number level number ways)) (setting_same k g.layer g.others g.newest)
     (g.given k.words g.layer.waits level number need ways (omega (arith, many))
-    (ways_stored u names xs b.1) g.free (omega (arith, enough, many))
+    (ways_stored s names xs b.1) g.free (omega (arith, enough, many))
     (subst (λ n. s.is_given_function n level number ≡ true) (sym many) b.0)
     (give g k.words (k.words + argument_words * length ways) g.layer.waits g.layer.waits b.1 (omega arith)
     (omega (arith, enough, many)) (λ n low. g.free n (omega (arith, low))))))
@@ -465,24 +465,23 @@ mutual
   -- each of them, behind the words that tell those before it
   pub arguments_give :
       (s : Scope) (k : Setting) (xs : Y.Arguments) (h : KnowsNumbers s k) (g : KnowsGiven s k) (words all need : ℕ)
-      (waits told : ℕ → Option ℕ) (is : are_arguments (without_located s) xs ≡ true) → arguments_need xs ≤ need →
-      words + argument_words * length (ways_of (without_located s) (names_in s k h g) xs is) ≤ all →
+      (waits told : ℕ → Option ℕ) (is : are_arguments s xs ≡ true) → arguments_need xs ≤ need →
+      words + argument_words * length (ways_of s (names_in s k h g) xs is) ≤ all →
       all + arguments_set xs ≤ g.layer.words → IsFree told all →
       EachGives (setting_told k words waits g.layer g.others) need (with_waits waits g.layer) g.others words all told
-      (ways_of (without_located s) (names_in s k h g) xs is)
+      (ways_of s (names_in s k h g) xs is)
   arguments_give s k Y.NoArgument h g words all need waits told is few many room free = tt
   arguments_give s k (Y.ArgumentThen (Y.ByCopy type (Y.StoredNumber precision x)) rest) h g words all need waits told is
       few many room free =
-      let u = without_located s in
       let first = Y.ByCopy type (Y.StoredNumber precision x) in
-      let a = and_parts (is_argument u first) (are_arguments u rest) is in
-      let b = and_parts (is_fixed type) ((precision == 31) && is_number u x) a.0 in
-      let us = ways_of u (names_in s k h g) rest a.1 in
+      let a = and_parts (is_argument s first) (are_arguments s rest) is in
+      let b = and_parts (is_fixed type) ((precision == 31) && is_number s x) a.0 in
+      let us = ways_of s (names_in s k h g) rest a.1 in
       let most' = g.few in
       let k' = setting_told k all told g.layer g.others in (
         more_registers k' (number_needs x) need x (omega (arith, few))
-            (number_does u k' x (numbers_told s k h g all (omega (arith, most', room)) told free)
-            (and_parts (precision == 31) (is_number u x) b.1).1 (λ may. omega (arith, room))),
+            (number_does s k' x (numbers_told s k h g all (omega (arith, most', room)) told free)
+            (and_parts (precision == 31) (is_number s x) b.1).1 (λ may. omega (arith, room))),
         λ z wide. arguments_give s k rest h g words all need waits
             (value_told (words + argument_words * length us) (word z) told) a.1 (omega (arith, few))
             (omega (arith, many))
@@ -490,9 +489,8 @@ mutual
             (told_free (words + argument_words * length us) (word z) all told free (omega (arith, many))),
       )
   arguments_give s k (Y.ArgumentThen (Y.ByReference r) rest) h g words all need waits told is few many room free =
-      let u = without_located s in
-      let a = and_parts (is_passed u r) (are_arguments u rest) is in
-      let us = ways_of u (names_in s k h g) rest a.1 in
+      let a = and_parts (is_passed s r) (are_arguments s rest) is in
+      let us = ways_of s (names_in s k h g) rest a.1 in
       let n = names_in s k h g r a.0 in
       let last = words + argument_words * length us in (
         n.passes words waits,

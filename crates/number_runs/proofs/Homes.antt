@@ -34,7 +34,7 @@ use Rattle.number_runs.specs.Numbers.{Scope, are_arguments, arguments_need, boun
 use Rattle.number_runs.specs.Numbers.{is_element, is_fixed, is_given, is_number, is_reference, is_variable, is_wider}
 use Rattle.number_runs.specs.Numbers.{number_needs, number_sets, reference_needs, reference_sets, test_needs}
 use Rattle.number_runs.specs.Based.{is_word_type}
-use Rattle.number_runs.specs.Numbers.{is_located, without_located}
+use Rattle.number_runs.specs.Numbers.{is_located}
 use Rattle.number_runs.specs.Statements.{is_line, is_stored, stored_needs, stored_sets, is_allocation}
 use Rattle.number_runs.specs.Statements.{is_area_variable, is_freeing}
 use Rattle.area_runs.specs.Allocations.{allocation}
@@ -153,6 +153,7 @@ given_in {s} r words c may low labels line includes =
             errors = t.errors words' set labels line includes;
             waits = λ entries. t.waits words' set line entries;
           };
+      reached = λ may' words' few waits. (l.reached waits) may' words' few labels line includes;
       given = λ words' waits level n need ways some stored free room is does.
           g.functions words' waits labels line level n need ways some stored includes free room is does;
     }
@@ -503,29 +504,28 @@ pub passed_does :
     (h : Home) (labels : List Label) (number level : ℕ) (first : Y.Argument) (rest : Y.Arguments) (line index : ℕ) →
     Includes h.own labels → is_line line ≡ true → gives_lists h.scope ≡ true →
     h.scope.is_given_procedure (suc (argument_count rest)) level number ≡ true →
-    are_arguments (without_located h.scope) (Y.ArgumentThen first rest) ≡ true →
+    are_arguments h.scope (Y.ArgumentThen first rest) ≡ true →
     arguments_need (Y.ArgumentThen first rest) ≤ h.block.registers →
     HasFrame h.ready h.words (call_sets (Y.Calling number level (Y.ArgumentThen first rest))) →
     Coded h labels (Y.CallProcedure (Y.Calling number level (Y.ArgumentThen first rest)) line) index
 passed_does h labels number level first rest line index includes is may taken given fits sets =
     let s = h.scope in
-    let u = without_located s in
     let xs = Y.ArgumentThen first rest in
     let c = and_parts s.gives s.counts may in
     let l = h.ready.loops c.1 in
     let k = setting_around h.words h.block labels line h.most in
     let knows' = knows h labels line includes in
     let names = names_in s k knows' (knows'.given may) in
-    let ways = ways_of u names xs given in
-    let many = ways_many u names xs given in
+    let ways = ways_of s names xs given in
+    let many = ways_many s names xs given in
     let room = (sets c.1).1 in
     let low = h.low c.1 in
     let need = arguments_need xs in
-    subst (λ q. Coded h labels (Y.CallProcedure (Y.Calling number level q) line) index) (ways_are u names xs given)
+    subst (λ q. Coded h labels (Y.CallProcedure (Y.Calling number level q) line) index) (ways_are s names xs given)
     (λ code. subst (λ q. DoesWith h.words q labels (given_statement level number line ways) index h.left')
     (telling_same h.block l.layer l.others l.newest)
     ((l.given c.0).procedures h.words l.layer.waits labels level number line index need ways
-    (omega (arith, many)) (ways_stored u names xs given) includes
+    (omega (arith, many)) (ways_stored s names xs given) includes
     (λ n at. l.free n (omega (arith, at, low))) (omega (arith, room, many))
     (subst (λ n. s.is_given_procedure n level number ≡ true) (sym many) taken) (ltb-true line (2 ^ 31) is) fits code
     (arguments_give s k xs knows' (knows'.given may) h.words (h.words + argument_words * length ways) need l.layer.waits

@@ -7,7 +7,8 @@ use Rattle.pli_meaning.specs.Control.{Label}
 use Rattle.expression_runs.specs.Variables.{whole}
 use Rattle.locator_runs.specs.Pointers as A
 use Rattle.locator_runs.proofs.PointerAssignments.{copy_does, null_does}
-use Rattle.member_runs.specs.MemberPointers.{following, linking, nulling}
+use Rattle.member_runs.specs.MemberPointers.{following, linking}
+use Rattle.member_runs.specs.NullMembers.{nulling}
 use Rattle.number_runs.specs.Knowledge.{HasFrame, Includes}
 use Rattle.number_runs.specs.Numbers.{name_sets, reference_sets}
 use Rattle.number_runs.specs.Statements.{is_line, is_pointed, pointer_sets}

@@ -516,7 +516,7 @@ mutual
   statement_does h labels (Y.CallProcedure (Y.Calling number level (Y.ArgumentThen first rest)) line) index placed is
       fits held sets at =
       let taken = h.scope.is_given_procedure (suc (argument_count rest)) level number in
-      let given = are_arguments (without_located h.scope) (Y.ArgumentThen first rest) in
+      let given = are_arguments h.scope (Y.ArgumentThen first rest) in
       let a = and_parts (is_line line) (gives_lists h.scope && (taken && given)) is in
       let b = and_parts (gives_lists h.scope) (taken && given) a.1 in
       let c = and_parts taken given b.1 in

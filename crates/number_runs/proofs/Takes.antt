@@ -85,13 +85,13 @@ named_taken s r t (inr h) one = narrow_taken s is_number_type r t h
 
 given_are :
     (s : Scope) (number level : ℕ) (xs : Y.Arguments) → is_number s (Y.NumberFrom (Y.Calling number level xs)) ≡ true →
-    are_arguments (without_located s) xs ≡ true
+    are_arguments s xs ≡ true
 given_are s number level Y.NoArgument h = refl
 given_are s number level (Y.ArgumentThen first rest) h =
     let xs = Y.ArgumentThen first rest in
     let taken = s.is_given_function (suc (argument_count rest)) level number in
-    let a = and_parts (gives_lists s) (taken && are_arguments (without_located s) xs) h in
-    (and_parts taken (are_arguments (without_located s) xs) a.1).1
+    let a = and_parts (gives_lists s) (taken && are_arguments s xs) h in
+    (and_parts taken (are_arguments s xs) a.1).1
 
 -- two names wait
 compared_taken :
@@ -187,7 +187,7 @@ mutual
   call_taken s (Y.Calling number level arguments) t h fits =
       list_takes (arguments_need arguments) (arguments_set arguments) (list_words arguments) t
       (call_takes t (Y.Calling number level arguments))
-      (arguments_taken (without_located s) arguments (with_words (list_words arguments) t)
+      (arguments_taken s arguments (with_words (list_words arguments) t)
       (given_are s number level arguments h)
       (omega (arith, fits)))
 
@@ -623,12 +623,12 @@ mutual
       (Y.CallProcedure (Y.Calling number level (Y.ArgumentThen first rest)) line) h fits =
       let xs = Y.ArgumentThen first rest in
       let taken = s.is_given_procedure (suc (argument_count rest)) level number in
-      let a = and_parts (is_line line) (gives_lists s && (taken && are_arguments (without_located s) xs)) h in
-      let b = and_parts (gives_lists s) (taken && are_arguments (without_located s) xs) a.1 in
-      let c = and_parts taken (are_arguments (without_located s) xs) b.1 in
+      let a = and_parts (is_line line) (gives_lists s && (taken && are_arguments s xs)) h in
+      let b = and_parts (gives_lists s) (taken && are_arguments s xs) a.1 in
+      let c = and_parts taken (are_arguments s xs) b.1 in
       list_takes (arguments_need xs) (arguments_set xs) (list_words xs) (set_aside words)
       (call_takes (set_aside words) (Y.Calling number level xs))
-      (arguments_taken (without_located s) xs (with_words (list_words xs) (set_aside words)) c.1 (omega (arith, fits)))
+      (arguments_taken s xs (with_words (list_words xs) (set_aside words)) c.1 (omega (arith, fits)))
   statement_taken words s valued labels (Y.Return line) h fits = sets_none (set_aside words)
   statement_taken words s valued labels (Y.ReturnValue type source line) h fits =
       let rest = is_fixed type && is_stored s source in

@@ -143,6 +143,7 @@ ready_told {s} {k = k} r c none waits behind free =
         begins = l.begins;
         texts = l.texts;
         signals = l.signals;
+        reached = l.reached;
         puts = l.puts;
       };
       room = r.room;
@@ -233,6 +234,7 @@ ready_unlocated r =
         begins = l.begins;
         signals = l.signals;
         texts = λ waits may'. around_unlocated (l.texts waits may');
+        reached = λ waits may'. absurd (cc may');
         puts = λ waits may'. l.puts waits may';
       };
       room = r.room;

@@ -192,7 +192,7 @@ mutual
   statement_uncounted s valued labels
       (Y.CallProcedure (Y.Calling number level (Y.ArgumentThen first rest)) line) none h =
       let taken = s.is_given_procedure (suc (argument_count rest)) level number in
-      let given = are_arguments (without_located s) (Y.ArgumentThen first rest) in
+      let given = are_arguments s (Y.ArgumentThen first rest) in
       let a = and_parts (is_line line) (gives_lists s && (taken && given)) h in
       let b = and_parts (gives_lists s) (taken && given) a.1 in
       absurd (cc (sym none.1.0 ∙ (and_parts s.gives s.counts b.0).0))

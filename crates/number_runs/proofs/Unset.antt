@@ -7,7 +7,7 @@ use Rattle.pli_coding.specs.Expressions.{argument_count}
 use Rattle.number_runs.specs.Numbers.{Scope, are_arguments, are_numbers, call_sets, gives_lists, is_element}
 use Rattle.number_runs.specs.Numbers.{is_number, is_reference}
 use Rattle.number_runs.specs.Numbers.{is_test, may_calculate, number_sets, numbers_set, reference_sets, test_sets}
-use Rattle.number_runs.specs.Numbers.{is_narrow_with, is_wider, IsBare, without_located}
+use Rattle.number_runs.specs.Numbers.{is_narrow_with, is_wider, IsBare}
 use Rattle.number_runs.specs.Narrow.{is_number_type}
 use Rattle.number_runs.specs.Based.{is_word_type}
 use Rattle.number_runs.proofs.Based.{through_is}
@@ -19,7 +19,7 @@ call_unset :
 call_unset s (Y.Calling number level Y.NoArgument) none h = refl
 call_unset s (Y.Calling number level (Y.ArgumentThen first rest)) none h =
     let taken = s.is_given_function (suc (argument_count rest)) level number in
-    let given = are_arguments (without_located s) (Y.ArgumentThen first rest) in
+    let given = are_arguments s (Y.ArgumentThen first rest) in
     let a = and_parts (gives_lists s) (taken && given) h in
     absurd (cc (sym none.0 ∙ (and_parts s.gives s.counts a.0).0))
 

@@ -157,11 +157,3 @@ waiting_unlocated h =
       errors = h.errors;
       functions = h.functions;
     }
-
-pub texts_unlocated : {s : Scope} {k : Setting} → KnowsTexts s k → KnowsTexts (without_located s) k
-texts_unlocated h =
-    record {
-      constants = h.constants;
-      errors = h.errors;
-      waits = λ entries. waiting_unlocated (h.waits entries);
-    }

@@ -52,7 +52,8 @@ use Rattle.area_assignments.specs.Emptying.{emptying}
 use Rattle.area_freeings.specs.Freeing.{freeing}
 use Rattle.locator_runs.specs.Pointers.{IsPointer}
 use Rattle.member_runs.specs.MemberAssignments as M
-use Rattle.member_runs.specs.MemberPointers.{following, linking, nulling}
+use Rattle.member_runs.specs.MemberPointers.{following, linking}
+use Rattle.member_runs.specs.NullMembers.{nulling}
 use Rattle.member_runs.specs.Members.{member_of}
 use Rattle.scalar_runs.specs.Scalars.{IsScalar}
 use Rattle.number_runs.specs.Numbers.{Scope, bounds_known, is_array_known, is_known, is_narrow_known, is_received}
@@ -122,9 +123,16 @@ pub record KnowsTexts (s : Scope) (k : Setting) : Type 0 where
   pub errors : KnowsErrors k
   pub waits : (entries : List Entry) → KnowsWaiting s (over entries k)
 
+-- pointers are known, and members of what they lead to are read
+pub record KnowsReached (s : Scope) (k : Setting) : Type 0 where
+  pub pointers : (x : Spot) → is_pointer_known s x ≡ true → IsPointer k.block x
+  pub reads :
+      (p n : Spot) (m : ℕ) → is_pointer_known s p ≡ true → is_member_known s is_word_type n m ≡ true →
+      L.Does k 0 (Y.NumberIn (member_of p n m))
+
 -- around lists of arguments, which stand in words of the newest layer behind those that are set aside: raises and calls
 -- do what they mean whatever waits in these words, and so does a call with a list if each of its arguments does; each
--- variable may be passed by reference
+-- variable may be passed by reference, and what pointers lead to is reached
 pub record KnowsGiven (s : Scope) (k : Setting) : Type 0 where
   pub layer : Layer
   pub others : List Layer
@@ -147,6 +155,9 @@ pub record KnowsGiven (s : Scope) (k : Setting) : Type 0 where
   pub texts :
       s.texts ≡ true → (words : ℕ) → words ≤ most_set → (waits : ℕ → Option ℕ) →
       KnowsTexts s (setting_told k words waits layer others)
+  pub reached :
+      s.locates ≡ true → (words : ℕ) → words ≤ most_set → (waits : ℕ → Option ℕ) →
+      KnowsReached s (setting_told k words waits layer others)
   pub given :
       (words : ℕ) (waits : ℕ → Option ℕ) (level n need : ℕ) (ways : List Way) → 0 < length ways →
       AreStored k.block.first ways → IsFree waits words → words + argument_words * length ways ≤ layer.words →
@@ -437,6 +448,9 @@ pub record KnowsLoops (s : Scope) (k : Block) (own : List Label) (most left' : �
   pub jumps : (waits : ℕ → Option ℕ) → KnowsJumps s (telling waits layer others k) own left'
   pub texts : (waits : ℕ → Option ℕ) → s.texts ≡ true → KnowsAroundTexts s (telling waits layer others k) own most
   pub signals : (waits : ℕ → Option ℕ) → KnowsSignals s (telling waits layer others k) own left'
+  pub reached :
+      (waits : ℕ → Option ℕ) → s.locates ≡ true → (words : ℕ) → words ≤ most_set → (labels : List Label) (line : ℕ) →
+      Includes own labels → KnowsReached s (setting_around words (telling waits layer others k) labels line most)
   -- there nothing that is BASED is written
   pub puts :
       (waits : ℕ → Option ℕ) → s.puts ≡ true → KnowsPuts (without_located s) (telling waits layer others k) most

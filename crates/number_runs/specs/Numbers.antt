@@ -325,7 +325,7 @@ abbrev mutual
   is_number s (Y.NumberFrom (Y.Calling number level (Y.ArgumentThen first rest))) =
       gives_lists s
       && (s.is_given_function (suc (argument_count rest)) level number
-      && are_arguments (without_located s) (Y.ArgumentThen first rest))
+      && are_arguments s (Y.ArgumentThen first rest))
   is_number s (Y.Signed sign x) = s.overflows && is_number s x
   is_number s (Y.Calculated operator left right) =
       may_calculate s operator && (is_number s left && is_number s right)

@@ -125,7 +125,7 @@ abbrev mutual
       is_line line
       && (gives_lists s
       && (s.is_given_procedure (suc (argument_count rest)) level number
-      && are_arguments (without_located s) (Y.ArgumentThen first rest)))
+      && are_arguments s (Y.ArgumentThen first rest)))
   is_statement s valued labels (Y.Return line) = is_line line && (s.own && (s.returns && not valued))
   is_statement s valued labels (Y.ReturnValue type source line) =
       is_line line && (s.own && (s.returns && (valued && (is_fixed type && is_stored s source))))

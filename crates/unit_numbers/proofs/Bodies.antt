@@ -100,6 +100,7 @@ ready m h ih more blocks c o os a own few clear home knows told =
         begins = λ waits labels head body index includes is. absurd (cc is);
         texts = λ waits may. absurd (cc may);
         signals = λ waits. (told waits).signals;
+        reached = λ waits may'. absurd (cc may');
         puts = λ waits. (told waits).puts;
       };
       room = omega arith;
