@@ -178,6 +178,7 @@ scope_of program ns head body =
       pointers = pointers_of head;
       counts = true;
       puts = true;
+      reads = true;
       overflows = true;
       divides = true;
       narrows = true;

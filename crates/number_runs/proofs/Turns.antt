@@ -23,7 +23,7 @@ use Rattle.counter_runs.proofs.Limits.{limit_size}
 use Rattle.counter_runs.proofs.Turns.{coded, starts_code}
 use Rattle.counter_runs.proofs.Words.{begun_telling}
 use Rattle.number_runs.specs.Knowledge.{AreStandingWith, HasFrame, IsHome, IsReady, IsFree, KnowsGivenCalls}
-use Rattle.number_runs.specs.Knowledge.{StandingWith, KnowsAroundTexts, KnowsCalls, KnowsRaises, KnowsPuts}
+use Rattle.number_runs.specs.Knowledge.{StandingWith, KnowsAroundTexts, KnowsCalls, KnowsRaises, KnowsPuts, KnowsReads}
 use Rattle.number_runs.specs.Numbers.{Scope, bounds_known, type_known, without_located}
 use Rattle.number_runs.proofs.Narrow.{narrow_told}
 use Rattle.list_calls.proofs.ParametersPassed.{parameter_told}
@@ -121,6 +121,7 @@ ready_told {s} {k = k} r c none waits behind free =
       texts = l.texts waits;
       signals = l.signals waits;
       puts = l.puts waits;
+      reads = l.reads waits;
       loops = λ c'. record {
         layer = with_waits waits l.layer;
         others = l.others;
@@ -135,6 +136,7 @@ ready_told {s} {k = k} r c none waits behind free =
         texts = l.texts;
         signals = l.signals;
         puts = l.puts;
+        reads = l.reads;
       };
       room = r.room;
       home = λ may. home_told l.layer l.others waits b (r.home may);
@@ -180,6 +182,9 @@ given_unlocated h = record { passable = h.passable; functions = h.functions; pro
 puts_unlocated : {s : Scope} {k : Block} {most : ℕ} → KnowsPuts s k most → KnowsPuts (without_located s) k most
 puts_unlocated h = record { numbers = h.numbers; error = h.error; lists = h.lists }
 
+reads_unlocated : {s : Scope} {k : Block} {most : ℕ} → KnowsReads s k most → KnowsReads (without_located s) k most
+reads_unlocated h = record { program = h.program; endfile = h.endfile; error = h.error }
+
 home_unlocated :
     {s : Scope} {valued : Bool} {k : Block} {left' : ℕ} → IsHome s valued k left' →
     IsHome (without_located s) valued k left'
@@ -208,6 +213,7 @@ ready_unlocated r =
       signals = r.signals;
       texts = λ may. around_unlocated (r.texts may);
       puts = λ may. puts_unlocated (r.puts may);
+      reads = λ may. reads_unlocated (r.reads may);
       loops = λ may. let l = r.loops may in record {
         layer = l.layer;
         others = l.others;
@@ -222,6 +228,7 @@ ready_unlocated r =
         signals = l.signals;
         texts = λ waits may'. around_unlocated (l.texts waits may');
         puts = λ waits may'. puts_unlocated (l.puts waits may');
+        reads = λ waits may'. reads_unlocated (l.reads waits may');
       };
       room = r.room;
       home = λ may. home_unlocated (r.home may);

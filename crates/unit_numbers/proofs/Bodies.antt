@@ -110,6 +110,7 @@ ready m h ih more blocks c o os a own few clear home knows told =
       texts = λ may. absurd (cc may);
       signals = knows.signals;
       puts = knows.puts;
+      reads = λ may. absurd (cc may);
       loops = λ may. record {
         layer = a.free.layer;
         others = a.free.below;
@@ -124,6 +125,7 @@ ready m h ih more blocks c o os a own few clear home knows told =
         texts = λ waits may. absurd (cc may);
         signals = λ waits. (told waits).signals;
         puts = λ waits. (told waits).puts;
+        reads = λ waits may'. absurd (cc may');
       };
       room = omega arith;
       home = λ may. home (unit_not c.unit may);
