@@ -43,11 +43,13 @@ use Rattle.nested_calls.proofs.NestedFunctions.{deep_function_ends, nested_funct
 use Rattle.number_runs.specs.Knowledge as Left
 use Rattle.number_runs.specs.Knowledge.{IsReady, IsUnraised, IsValued, KnowsAroundTexts, KnowsCalls, KnowsPuts}
 use Rattle.number_runs.specs.Knowledge.{KnowsRaises, call_number, call_statement, most_set, KnowsSignals, KnowsBegins}
+use Rattle.number_runs.specs.Knowledge.{KnowsReads}
 use Rattle.number_runs.specs.Numbers.{without_located}
 use Rattle.number_runs.specs.Statements.{statements_set}
 use Rattle.number_runs.specs.Variables.{bytes_of}
 use Rattle.number_runs.proofs.Homes.{none_raised}
 use Rattle.number_runs.proofs.Statements.{body_does}
+use Rattle.number_runs.proofs.Gets.{reads_known}
 use Rattle.number_runs.proofs.Puts.{puts_known}
 use Rattle.number_runs.proofs.Unraised.{around_texts_end}
 use Rattle.number_headlines.specs.Programs.{scope_of}
@@ -178,6 +180,16 @@ told_puts once {program} m input acts valued more a blocks few h =
     (λ may. h.narrows) h.parameters (λ may. absurd (cc may)) (λ may. constants_known program k m.memory h.told refl)
     (lists_known program k m.memory h.told) (λ may. absurd (cc may))
 
+-- and read
+reads_of :
+    MarkedOnce → {program : Y.Program} (m : Main program) (input : List ℕ) (acts : ℕ) (valued : Bool) (more : ℕ)
+    (a : Running) (blocks : ℕ) → acts + 1 < 2 ^ 64 → IsRunning m input acts valued more a blocks →
+    KnowsReads (scope_of program m.called a.head a.body) (block_of_run program input acts valued more a)
+    (most_for program)
+reads_of once {program} m input acts valued more a blocks few h =
+    reads_known (scope_of program m.called a.head a.body) (block_of_run program input acts valued more a)
+    (most_for program) (unraised_of once m input acts valued more a blocks few h) (h.unraised C.Endfile) refl
+
 -- wherever limits wait in words of its frame, and texts on their stack, calls do what they mean
 abbrev EachCall : {program : Y.Program} → Main program → (input : List ℕ) → (acts : ℕ) → (valued : Bool) →
     (more : ℕ) → Running → (blocks : ℕ) → Type 0
@@ -250,6 +262,7 @@ ready once {program} m input acts valued more a blocks few e calls given begins 
       texts = λ may. texts_of once m input acts valued more a blocks few a.layers h calls;
       signals = signals_of once m input acts valued more a blocks few h;
       puts = λ may. puts_of once m input acts valued more a blocks few e;
+      reads = λ may. reads_of once m input acts valued more a blocks few h;
       loops = λ may. record {
         layer = φ;
         others = φs;
@@ -274,6 +287,8 @@ ready once {program} m input acts valued more a blocks few e calls given begins 
             waits words' labels line;
         puts = λ waits may.
             told_puts once m input acts valued more (told_run a waits φ φs) blocks few (told_running h waits);
+        reads = λ waits may.
+            reads_of once m input acts valued more (told_run a waits φ φs) blocks few (told_running h waits);
       };
       room = omega arith;
       home = λ may. record {

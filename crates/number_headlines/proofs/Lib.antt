@@ -50,3 +50,4 @@ pub mod EuclidRows
 pub mod LentRows
 pub mod HolderRows
 pub mod BeginRows
+pub mod ReadRows

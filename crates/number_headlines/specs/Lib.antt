@@ -22,3 +22,4 @@ pub mod EuclidRows
 pub mod LentRows
 pub mod HolderRows
 pub mod BeginRows
+pub mod ReadRows

@@ -216,6 +216,7 @@ scope_of program ns head body =
       pointers = (names_of program ns head body).pointers;
       counts = true;
       puts = true;
+      reads = true;
       overflows = true;
       divides = true;
       narrows = true;

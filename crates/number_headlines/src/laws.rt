@@ -20,6 +20,7 @@ ghost use Rattle.number_headlines.specs.NestRows.{NestKept};
 ghost use Rattle.number_headlines.specs.PairRows.{PairKept};
 ghost use Rattle.number_headlines.specs.PowerRows.{PowerKept};
 ghost use Rattle.number_headlines.specs.PutRows.{SquaresKept};
+ghost use Rattle.number_headlines.specs.ReadRows.{PairsKept};
 ghost use Rattle.number_headlines.specs.Rows.{TotalKept};
 ghost use Rattle.number_headlines.specs.SumRows.{SumKept};
 ghost use Rattle.number_headlines.specs.TextRows.{WordKept};
@@ -61,6 +62,13 @@ pub fn calling_kept()
 /// A worked row with recursion: two procedures that call one another, one inside one of them, and a function.
 pub fn nest_kept()
     ensures { NestKept }
+{
+    number_headlines_kept();
+}
+
+/// A worked row that reads: a loop that takes pairs of numbers until the sum of their products is large enough.
+pub fn pairs_kept()
+    ensures { PairsKept }
 {
     number_headlines_kept();
 }

@@ -22,6 +22,7 @@ pub mod Unraised
 pub mod Received
 pub mod Formats
 pub mod Puts
+pub mod Gets
 pub mod Labels
 pub mod Counters
 pub mod Turns

@@ -202,7 +202,7 @@ lists_go words s k labels line need most may knows (p ∷ ps) i h fits l =
 
 -- ---- the statement
 
-skip_is : (skip : Option ℕ) → is_skip skip ≡ true → IsSkipped skip
+pub skip_is : (skip : Option ℕ) → is_skip skip ≡ true → IsSkipped skip
 skip_is None h = tt
 skip_is (Some lines) h = times_are lines h
 

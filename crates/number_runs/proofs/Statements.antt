@@ -47,6 +47,7 @@ use Rattle.number_runs.specs.Knowledge.{StandingWith}
 use Rattle.number_runs.specs.Numbers.{Scope, are_arguments, gives_lists, is_fixed}
 use Rattle.number_runs.specs.Numbers.{is_reference, is_test, number_needs, number_sets, reference_needs, reference_sets}
 use Rattle.number_runs.specs.Numbers.{inside, test_needs, test_sets, without_located}
+use Rattle.number_runs.specs.Gets.{is_get}
 use Rattle.number_runs.specs.Puts.{is_put}
 use Rattle.number_runs.specs.Statements.{are_statements, behind_stored, is_line, is_statement, is_stored}
 use Rattle.number_runs.specs.Statements.{begin_needs, begins_need, statement_needs}
@@ -60,6 +61,7 @@ use Rattle.number_runs.proofs.Homes.{Coded, gone_does, calls_does, passed_does, 
 use Rattle.number_runs.proofs.Homes.{allocated_does, copied_does, emptied_does, freed_does}
 use Rattle.number_runs.proofs.Narrowed.{narrowed_does}
 use Rattle.number_runs.proofs.Labels.{placed_in, placed_with}
+use Rattle.number_runs.proofs.Gets.{get_statement_does}
 use Rattle.number_runs.proofs.Puts.{put_statement_does}
 use Rattle.number_runs.proofs.Turns.{frame_told, free_above, ready_told, turn_stands, ready_unlocated}
 use Rattle.number_runs.proofs.Turns.{frame_unlocated, low_unlocated}
@@ -606,7 +608,18 @@ mutual
   statement_does h labels (Y.Free all line) index placed is fits held sets at =
       let a = and_parts (is_line line) (is_freeing h.scope all) is in
       freed_does h labels all line index placed.includes a.0 a.1 at.linked
-  statement_does h labels (Y.Get skip pairs line) index placed is fits held sets at = absurd (cc is)
+  statement_does h labels (Y.Get skip pairs line) index placed is fits held sets at =
+      let a = and_parts (is_line line) (is_get h.scope skip pairs) is in
+      get_statement_does h.words h.scope h.block labels skip pairs line index h.left' h.most a.1
+      (record {
+        act = act_of h line a.0;
+        may = h.set;
+        held = h.ready.held;
+        statement = at.linked;
+        paid = paid_for h (Y.Get skip pairs line) index at.linked;
+        writes = h.ready.puts;
+        reads = h.ready.reads;
+      })
   statement_does h labels (Y.Put skip pairs line) index placed is fits held sets at =
       let a = and_parts (is_line line) (is_put h.scope skip pairs) is in
       put_statement_does h.words h.scope h.block labels skip pairs line index h.left' h.most a.1

@@ -2,7 +2,7 @@
 -- loops and lists of arguments set aside.
 use Rattle.std.proofs.Common.{◌≡◌, ◌⊎◌, inl, inr, ℕ, suc, ◌+◌, ◌≤◌, List, [], ◌∷◌, ◌++◌, true, refl, sym}
 use Rattle.std.proofs.Common.{ap, subst, arith, None, Option, Some}
-use Rattle.std.specs.Prelude.{◌&&◌, ◌||◌, ◌==◌, Bool, max}
+use Rattle.std.specs.Prelude.{◌&&◌, ◌||◌, ◌==◌, Bool, max, not}
 use Rattle.std.proofs.lemmas.Bool.{and_parts, or_cases}
 use Rattle.pli_typing.specs.TypedTree as Y
 use Rattle.pli_meaning.specs.Control.{Label}
@@ -32,6 +32,8 @@ use Rattle.number_runs.specs.Based.{is_word_type}
 use Rattle.number_runs.specs.Narrow.{has_precision, is_bit, is_number_type, is_text_type}
 use Rattle.number_runs.specs.Numbers.{is_narrow_with, is_wider, is_precision, is_text, text_needs, without_given}
 use Rattle.number_runs.specs.Numbers.{IsBare, are_compared, compared_sets, name_sets, without_located}
+use Rattle.number_runs.specs.Gets.{are_get_items, are_get_pairs, is_get}
+use Rattle.pli_coding.specs.Streams.{get_items_take, get_takes, has_text}
 use Rattle.number_runs.specs.Puts.{are_pairs, are_put_items, is_put, is_put_item, is_put_list, is_skip, are_shown}
 use Rattle.number_runs.specs.Puts.{is_list}
 use Rattle.number_runs.specs.Puts.{put_item_needs, put_item_sets, put_items_need, put_items_set, put_needs, put_sets}
@@ -553,6 +555,31 @@ put_taken words s skip (p ∷ ps) h fits =
     let a = and_parts (is_skip skip) (s.puts && are_pairs s (p ∷ ps)) h in
     pairs_taken words s (p ∷ ps) (and_parts s.puts (are_pairs s (p ∷ ps)) a.1).1 fits
 
+-- a field waits in a register at most
+get_items_taken :
+    (words : ℕ) (s : Scope) (is : List Y.GetItem) → are_get_items s is ≡ true →
+    Takes 0 (set_aside words) (get_items_take (set_aside words) is)
+get_items_taken words s [] h = takes_none (set_aside words)
+get_items_taken words s (Y.GetScalar r ∷ is) h =
+    let a = and_parts (is_variable s r) (are_get_items s is) h in
+    let x = scalar_takes s r (with_number (set_aside words)) (inl a.0) in
+    let more = x.registers in
+    let same = x.words in
+    takes_either 0 0 (set_aside words) (reference_takes (with_number (set_aside words)) r)
+    (get_items_take (set_aside words) is)
+    (record { registers = omega (arith, more); words = omega (arith, same) }) (get_items_taken words s is a.1)
+get_items_taken words s (Y.GetAggregate r ∷ is) h = absurd (cc h)
+
+get_taken :
+    (words : ℕ) (s : Scope) (ps : List Y.GetPair) → are_get_pairs s ps ≡ true →
+    Takes 0 (set_aside words) (get_takes (set_aside words) ps)
+get_taken words s [] h = takes_none (set_aside words)
+get_taken words s (p ∷ ps) h =
+    let by = is_list p.formats && not (has_text p.formats) in
+    let a = and_parts (are_get_items s p.items && by) (are_get_pairs s ps) h in
+    takes_either 0 0 (set_aside words) (get_items_take (set_aside words) p.items) (get_takes (set_aside words) ps)
+    (get_items_taken words s p.items (and_parts (are_get_items s p.items) by a.0).0) (get_taken words s ps a.1)
+
 -- two words and a name
 allocation_taken :
     (words : ℕ) (s : Scope) (all : List Y.Allocation) → is_allocation s all ≡ true →
@@ -679,7 +706,11 @@ mutual
       allocation_taken words s all (and_parts (is_line line) (is_allocation s all) h).1
   statement_taken words s valued labels (Y.Free all line) h fits =
       freeing_taken words s all (and_parts (is_line line) (is_freeing s all) h).1
-  statement_taken words s valued labels (Y.Get skip pairs line) h fits = absurd (cc h)
+  statement_taken words s valued labels (Y.Get skip pairs line) h fits =
+      let a = and_parts (is_line line) (is_get s skip pairs) h in
+      let b = and_parts (is_skip skip) ((s.puts && s.reads) && are_get_pairs s pairs) a.1 in
+      sets_no_words 0 (set_aside words) (get_takes (set_aside words) pairs)
+      (get_taken words s pairs (and_parts (s.puts && s.reads) (are_get_pairs s pairs) b.1).1)
   statement_taken words s valued labels (Y.Put skip pairs line) h fits =
       put_taken words s skip pairs (and_parts (is_line line) (is_put s skip pairs) h).1 fits
 

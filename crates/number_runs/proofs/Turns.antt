@@ -24,7 +24,7 @@ use Rattle.counter_runs.proofs.Limits.{limit_size}
 use Rattle.counter_runs.proofs.Turns.{coded, starts_code, while_long}
 use Rattle.counter_runs.proofs.Words.{begun_telling}
 use Rattle.number_runs.specs.Knowledge.{AreStandingWith, HasFrame, IsHome, IsReady, IsFree, KnowsGivenCalls}
-use Rattle.number_runs.specs.Knowledge.{StandingWith, KnowsAroundTexts, KnowsCalls, KnowsRaises, KnowsPuts}
+use Rattle.number_runs.specs.Knowledge.{StandingWith, KnowsAroundTexts, KnowsCalls, KnowsRaises, KnowsPuts, KnowsReads}
 use Rattle.number_runs.specs.Numbers.{Scope, bounds_known, type_known, without_located}
 use Rattle.number_runs.proofs.Narrow.{narrow_told}
 use Rattle.parameter_runs.proofs.Passing.{around_told}
@@ -129,6 +129,7 @@ ready_told {s} {k = k} r c none waits behind free =
       texts = l.texts waits;
       signals = l.signals waits;
       puts = λ may. puts_bare none (l.puts waits may);
+      reads = l.reads waits;
       loops = λ c'. record {
         layer = with_waits waits l.layer;
         others = l.others;
@@ -145,6 +146,7 @@ ready_told {s} {k = k} r c none waits behind free =
         signals = l.signals;
         reached = l.reached;
         puts = l.puts;
+        reads = l.reads;
       };
       room = r.room;
       home = λ may. home_told l.layer l.others waits b (r.home may);
@@ -191,6 +193,9 @@ puts_unlocated : {s : Scope} {k : Block} {most : ℕ} → KnowsPuts s k most →
 puts_unlocated h =
     record { numbers = h.numbers; error = h.error; lists = h.lists; located = λ may. absurd (cc may) }
 
+reads_unlocated : {s : Scope} {k : Block} {most : ℕ} → KnowsReads s k most → KnowsReads (without_located s) k most
+reads_unlocated h = record { program = h.program; endfile = h.endfile; error = h.error }
+
 home_unlocated :
     {s : Scope} {valued : Bool} {k : Block} {left' : ℕ} → IsHome s valued k left' →
     IsHome (without_located s) valued k left'
@@ -220,6 +225,7 @@ ready_unlocated r =
       signals = r.signals;
       texts = λ may. around_unlocated (r.texts may);
       puts = λ may. puts_unlocated (r.puts may);
+      reads = λ may. reads_unlocated (r.reads may);
       loops = λ may. let l = r.loops may in record {
         layer = l.layer;
         others = l.others;
@@ -236,6 +242,7 @@ ready_unlocated r =
         texts = λ waits may'. around_unlocated (l.texts waits may');
         reached = λ waits may'. absurd (cc may');
         puts = λ waits may'. l.puts waits may';
+        reads = λ waits may'. reads_unlocated (l.reads waits may');
       };
       room = r.room;
       home = λ may. home_unlocated (r.home may);

@@ -37,6 +37,7 @@ use Rattle.text_runs.specs.Texts.{ErrorComes}
 use Rattle.text_runs.specs.Waiting.{over}
 use Rattle.text_values.specs.Variables.{KnowsText}
 use Rattle.edit_runs.specs.Edits.{KnowsFormats, placing, within}
+use Rattle.get_runs.specs.Gets.{EndfileComes}
 use Rattle.program_places.specs.Laws.{IsLabel}
 use Rattle.program_places.specs.Placed.{Placed}
 use Rattle.counter_runs.specs.Words.{telling}
@@ -280,6 +281,17 @@ pub record KnowsPuts (s : Scope) (k : Block) (most : ℕ) : Type 0 where
   pub lists : KnowsLists k
   pub located : s.locates ≡ true → KnowsPlaced s k most
 
+-- around what is read, too, ENDFILE there comes to what it means, as does a field that is no number, and meaning and
+-- code have the same program
+pub record KnowsReads (s : Scope) (k : Block) (most : ℕ) : Type 0 where
+  pub program : k.around.program ≡ k.environment.program
+  pub endfile :
+      (words : ℕ) → MayBeSet s words → (place : EditPlace) (labels : List Label) (line : ℕ) →
+      EndfileComes (within place (setting_around words k labels line most))
+  pub error :
+      (words : ℕ) → MayBeSet s words → (place : EditPlace) (labels : List Label) (line : ℕ) →
+      ErrorComes ℤ (within place (setting_around words k labels line most))
+
 -- raises in its statements come to what they mean, also where a unit goes on at a label of the block's own list
 pub record KnowsRaises (s : Scope) (k : Block) (own : List Label) (most : ℕ) : Type 0 where
   pub overflow :
@@ -455,6 +467,7 @@ pub record KnowsLoops (s : Scope) (k : Block) (own : List Label) (most left' : �
   pub puts :
       (waits : ℕ → Option ℕ) → s.puts ≡ true → KnowsPuts (without_located s) (telling waits layer others k) most
   pub begins : (waits : ℕ → Option ℕ) → KnowsBegins s (telling waits layer others k) own left'
+  pub reads : (waits : ℕ → Option ℕ) → s.reads ≡ true → KnowsReads s (telling waits layer others k) most
 
 -- a block whose own list has these labels
 pub record IsReady (s : Scope) (valued : Bool) (k : Block) (labels : List Label) (most left' : ℕ) : Type 0 where
@@ -476,6 +489,7 @@ pub record IsReady (s : Scope) (valued : Bool) (k : Block) (labels : List Label)
   pub texts : s.texts ≡ true → KnowsAroundTexts s k labels most
   pub signals : KnowsSignals s k labels left'
   pub puts : s.puts ≡ true → KnowsPuts s k most
+  pub reads : s.reads ≡ true → KnowsReads s k most
   pub loops : s.counts ≡ true → KnowsLoops s k labels most left'
   -- an act pays for a statement and for what a call in it needs
   pub room : most ≤ length k.call.code + 2

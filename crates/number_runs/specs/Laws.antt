@@ -1,7 +1,10 @@
 -- The laws of such blocks: each expression leaves what it means, and each statement does what it means.
+use Rattle.pli_language.specs.declared.condition.Condition.TheVariants as C
 use Rattle.std.specs.Prelude.{ℕ, ◌≤◌, ◌≡◌, ◌++◌, Bool, true, List, []}
 use Rattle.pli_typing.specs.TypedTree as Y
 use Rattle.pli_meaning.specs.Control.{Label}
+use Rattle.pli_meaning.specs.StorageState.{force}
+use Rattle.activation_relation.specs.ServiceLaws.{IsSystem}
 use Rattle.pli_meaning.specs.DeclaredShapes.{variables_of_block}
 use Rattle.pli_meaning.specs.Executing.{labels_in}
 use Rattle.pli_serving.specs.ServiceState.{Entry}
@@ -19,7 +22,7 @@ use Rattle.parameter_runs.specs.Around.{IsParameterAround}
 use Rattle.test_runs.specs.Tests.{Tests}
 use Rattle.number_runs.specs.Knowledge.{AreAround, AreStanding, HasFrame, HasLists, IsReady, IsUnraised, KnowsLists}
 use Rattle.number_runs.specs.Knowledge.{KnowsNumbers, KnowsPuts, KnowsRaises, Standing, KnowsAroundTexts}
-use Rattle.number_runs.specs.Knowledge.{KnowsConstants, KnowsPlaced, MayBeSet, call_number}
+use Rattle.number_runs.specs.Knowledge.{KnowsConstants, KnowsPlaced, MayBeSet, call_number, KnowsReads}
 use Rattle.text_runs.specs.Laws.{TextDoes}
 use Rattle.number_runs.specs.Numbers.{Scope, bounds_known, is_array_known, is_known, is_number, is_received, is_test}
 use Rattle.number_runs.specs.Numbers.{is_narrow_known, number_needs, number_sets, test_needs, test_sets, type_known}
@@ -73,6 +76,10 @@ pub record BodiesDo : Type 0 where
       ((x : Spot) → is_received s x ≡ true → IsParameterAround k x) → (s.codes ≡ true → HasCode k) →
       (s.texts ≡ true → KnowsConstants k) → KnowsLists k → (s.locates ≡ true → KnowsPlaced s k most) →
       KnowsPuts s k most
+  -- and read
+  pub read :
+      (s : Scope) (k : Block) (most : ℕ) → IsUnraised k most → IsSystem (force k.first.state.activations C.Endfile) →
+      k.around.program ≡ k.environment.program → KnowsReads s k most
   -- and texts may wait, if functions are called above them
   pub texts :
       (s : Scope) (k : Block) (own : List Label) (most : ℕ) → IsUnraised k most → KnowsConstants k →

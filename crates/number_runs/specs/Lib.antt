@@ -5,6 +5,7 @@ pub mod Based
 pub mod Numbers
 pub mod Counting
 pub mod Puts
+pub mod Gets
 pub mod Statements
 pub mod Knowledge
 pub mod Variables

@@ -71,6 +71,8 @@ pub record Scope : Type 0 where
   pub counts : Bool
   -- whether statements may write numbers by format lists
   pub puts : Bool
+  -- and read numbers by them
+  pub reads : Bool
   -- whether they may name scalars of fewer bits, and bits
   pub narrows : Bool
   -- whether they may have texts

@@ -13,6 +13,7 @@ use Rattle.number_runs.specs.Numbers.{without_given, is_area_known, is_automatic
 use Rattle.number_runs.specs.Numbers.{spot_of, without_located, is_followed, name_sets, inside}
 use Rattle.number_runs.specs.Narrow.{has_precision, is_bit, is_text_type}
 use Rattle.number_runs.specs.Puts.{is_put, put_needs, put_sets}
+use Rattle.number_runs.specs.Gets.{is_get}
 
 -- a line fits a register
 abbrev pub is_line : ℕ → Bool
@@ -134,6 +135,7 @@ abbrev mutual
   is_statement s valued labels (Y.Stop line) = is_line line
   is_statement s valued labels (Y.Signal condition line) = is_line line && s.signals condition
   is_statement s valued labels (Y.Put skip pairs line) = is_line line && is_put s skip pairs
+  is_statement s valued labels (Y.Get skip pairs line) = is_line line && is_get s skip pairs
   is_statement s valued labels (Y.Allocate all line) = is_line line && is_allocation s all
   is_statement s valued labels (Y.Free all line) = is_line line && is_freeing s all
   is_statement s valued labels (Y.AssignArea target source line) =

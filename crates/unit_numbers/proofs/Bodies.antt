@@ -86,6 +86,7 @@ ready m h ih more blocks c o os a own few clear home knows told =
       texts = λ may. absurd (cc may);
       signals = knows.signals;
       puts = knows.puts;
+      reads = λ may. absurd (cc may);
       loops = λ may. record {
         layer = a.free.layer;
         others = a.free.below;
@@ -102,6 +103,7 @@ ready m h ih more blocks c o os a own few clear home knows told =
         signals = λ waits. (told waits).signals;
         reached = λ waits may'. absurd (cc may');
         puts = λ waits. (told waits).puts;
+        reads = λ waits may'. absurd (cc may');
       };
       room = omega arith;
       home = λ may. home (unit_not c.unit may);

@@ -80,6 +80,7 @@ scope_in program ns all caller unit writes =
       is_given_procedure = λ count level n. false;
       counts = true;
       puts = writes && not (is_jumped_to caller unit all && has_unit C.Error all);
+      reads = false;
       overflows = not (writes && (is_jumped_to caller unit all && has_unit C.FixedOverflow all));
       divides = not (writes && (is_jumped_to caller unit all && has_unit C.ZeroDivide all));
       narrows = true;
