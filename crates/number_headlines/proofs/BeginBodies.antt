@@ -1,6 +1,6 @@
 -- Each begin block of the class does what it means, if the statements of blocks that may be entered one level less deep
 -- do: it ends the run where one more block may not be active, or where its variables pass the limit.
-use Rattle.std.proofs.Common.{◌≡◌, ℕ, zero, suc, ◌+◌, ◌^◌, ◌<◌, ◌≤◌, List, [], ◌∷◌, ◌++◌, length, Bool, true, false, arith}
+use Rattle.std.proofs.Common.{◌≡◌, ℕ, zero, suc, ◌+◌, ◌^◌, ◌<◌, List, length, Bool, false, arith}
 use Rattle.std.specs.Prelude.{nat_le, nat_lt}
 use Rattle.std.proofs.lemmas.Bool.{leb-true}
 use Rattle.std.proofs.lemmas.Bool.Decides.{nat_tests}
@@ -22,7 +22,8 @@ use Rattle.number_runs.specs.Variables.{bytes_of}
 use Rattle.number_runs.proofs.Statements.{body_marked}
 use Rattle.number_headlines.specs.Programs.{scope_of}
 use Rattle.number_headlines.proofs.BeginEntered.{begun_entered}
-use Rattle.number_headlines.proofs.BeginSites.{Stands, around_it, begin_in, is_begin, is_deep_begin, run_begun, within_is}
+use Rattle.number_headlines.proofs.BeginSites.{Stands, around_it, begin_in, is_begin, is_deep_begin, run_begun}
+use Rattle.number_headlines.proofs.BeginSites.{within_is}
 use Rattle.number_headlines.proofs.BeginWords.{full_in, all_in}
 use Rattle.number_headlines.proofs.Deciding.{by_decision}
 use Rattle.number_headlines.proofs.Mains.{Main}

@@ -1,11 +1,11 @@
 -- A begin block of the class where its first statement begins: what is known in the block around it is known of it.
-use Rattle.std.proofs.Common.{◌≡◌, ◌⊎◌, inl, inr, ℕ, suc, ◌+◌, ◌^◌, ◌<◌, ◌≤◌, List, [], ◌∷◌, length, Bool, true, false, refl}
+use Rattle.std.proofs.Common.{◌≡◌, ◌⊎◌, inl, inr, ℕ, suc, ◌+◌, ◌^◌, ◌<◌, ◌≤◌, List, [], ◌∷◌, length, Bool}
+use Rattle.std.proofs.Common.{true, false, refl}
 use Rattle.std.proofs.Common.{sym, ap, ◌∙◌, subst, arith, Some}
 use Rattle.std.specs.Prelude.{◌&&◌, ◌==◌, if◌then◌else◌, nat_le, nat_lt, not}
 use Rattle.std.specs.List.{list_any}
 use Rattle.std.proofs.lemmas.Bool.{and_from, and_parts, leb-true, ltb-true}
 use Rattle.std.proofs.lemmas.Bool.Decides.{nat_tests}
-use Rattle.pli_language.specs.declared.condition.Condition.{Condition}
 use Rattle.pli_typing.specs.TypedTree as Y
 use Rattle.pli_meaning.specs.DeclaredShapes.{declared_variable, variables_of_block}
 use Rattle.pli_meaning.specs.Executing as M
@@ -15,7 +15,7 @@ use Rattle.pli_coding.specs.Frames.{fixed_size, parameters_of_block}
 use Rattle.pli_coding.specs.Images.{linked_code}
 use Rattle.activation_relation.specs.FrameLaws.{with_waits}
 use Rattle.activation_relation.specs.Frames.{lower_end, upper_top}
-use Rattle.activation_relation.specs.Layers.{Layer, Point}
+use Rattle.activation_relation.specs.Layers.{Point}
 use Rattle.activation_relation.specs.ServiceLaws.{IsSystem}
 use Rattle.program_places.specs.Programs.{code_for, environment_for}
 use Rattle.program_places.proofs.Inner.{begin_placed}
@@ -32,8 +32,8 @@ use Rattle.variable_runs.proofs.Lists.{layers_after}
 use Rattle.argument_runs.specs.Parameters.{parameter_of}
 use Rattle.block_headlines.proofs.Constants.{called_of_program}
 use Rattle.list_calls.specs.Passed.{IsTelling}
-use Rattle.list_calls.proofs.Telling.{Tells, over_telling, tells_each, told_own}
-use Rattle.begin_runs.specs.BeginBlocks.{AreMade, IsBegin, begun_in, inner_beginning, inner_layer}
+use Rattle.list_calls.proofs.Telling.{over_telling, tells_each, told_own}
+use Rattle.begin_runs.specs.BeginBlocks.{AreMade, begun_in, inner_beginning, inner_layer}
 use Rattle.nested_begins.proofs.BegunVariables.{all_begun_in, known_begun_in}
 use Rattle.nested_begins.proofs.InnerBlocks.{inner_known, inner_nested, inner_number, inner_over}
 use Rattle.number_runs.specs.Arrays.{bounds_if, is_array_if}

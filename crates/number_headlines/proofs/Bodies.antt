@@ -23,7 +23,7 @@ use Rattle.activation_relation.specs.Layers.{Layer}
 use Rattle.run_steps.specs.Items.{Linked}
 use Rattle.run_steps.proofs.Jumps.{back_of}
 use Rattle.run_steps.proofs.Linking.{size_append}
-use Rattle.program_places.specs.Programs.{code_for, environment_for, links_for, procedures_index, program_environment}
+use Rattle.program_places.specs.Programs.{code_for, links_for, procedures_index, program_environment}
 use Rattle.program_places.proofs.Callees.{callee_stands}
 use Rattle.program_places.proofs.Found.{known}
 use Rattle.program_places.proofs.Functions.{function_stands}

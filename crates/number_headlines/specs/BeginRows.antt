@@ -118,9 +118,9 @@ pub record BeginsKept : Type 0 where
   -- Y begins anew in each turn, and K in each call: 22 and 24 + 11, and 1 2 3
   pub ends :
       (input : List ℕ) →
-      meaning begins_program input 60
+      meaning begins_program input 52
       ≡ Some (record {
-        acts = 60;
+        acts = 52;
         output = 32 ∷ 50 ∷ 50 ∷ 32 ∷ 51 ∷ 53 ∷ 32 ∷ 49 ∷ 32 ∷ 50 ∷ 32 ∷ 51 ∷ 10 ∷ [];
         raised = [];
         end = E.Finished;

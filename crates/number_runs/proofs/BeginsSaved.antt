@@ -1,17 +1,16 @@
 -- Begin blocks save no registers: their procedure saves what their temporaries take.
-use Rattle.std.proofs.Common.{◌≡◌, ℕ, ◌≤◌, List, [], ◌∷◌, ◌++◌, true, false, refl, sym, ◌∙◌, arith}
-use Rattle.std.specs.Prelude.{◌&&◌, Bool, max}
+use Rattle.std.proofs.Common.{◌≡◌, ℕ, ◌≤◌, List, [], ◌++◌, true, false, refl, sym, ◌∙◌, arith}
+use Rattle.std.specs.Prelude.{◌&&◌, Bool}
 use Rattle.std.proofs.lemmas.Bool.{and_parts}
 use Rattle.pli_typing.specs.TypedTree as Y
 use Rattle.pli_meaning.specs.Control.{Label}
 use Rattle.pli_meaning.specs.Executing.{labels_in}
 use Rattle.pli_coding.specs.Environments.{Environment}
 use Rattle.pli_coding.specs.Registers.{held_registers}
-use Rattle.pli_coding.specs.Statements.{block_held, block_takes, stmt_held, stmts_held}
+use Rattle.pli_coding.specs.Statements.{block_held, stmt_held, stmts_held}
 use Rattle.number_runs.specs.Counting.{is_count}
 use Rattle.number_runs.specs.Numbers.{Scope, inside, is_test, without_located}
 use Rattle.number_runs.specs.Statements.{are_statements, begin_needs, begins_need, is_line, is_statement}
-use Rattle.number_runs.specs.Statements.{statements_need}
 use Rattle.number_runs.proofs.Takes.{statements_taken}
 
 mutual

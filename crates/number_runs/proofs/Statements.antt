@@ -405,7 +405,8 @@ mutual
       (statements_do h (labels_in body ++ labels) body i
       (placed_in h.words h.block h.own body i labels in' placed) b.1 (omega (arith, fits)) held
       (fewer h (statements_set body) (max (test_sets condition) (statements_set body)) (omega arith) sets) in')
-  statement_does h labels (Y.CallProcedure (Y.Calling number level Y.NoArgument) line) index placed is fits held sets at =
+  statement_does h labels (Y.CallProcedure (Y.Calling number level Y.NoArgument) line) index placed is fits held sets
+      at =
       let a = and_parts (is_line line) (h.scope.is_procedure level number) is in
       calls_does h labels number level line index placed.includes a.0 a.1 at.linked
   statement_does h labels (Y.CallProcedure (Y.Calling number level (Y.ArgumentThen first rest)) line) index placed is
@@ -450,7 +451,8 @@ mutual
       let a = and_parts (is_line line) (h.scope.locates && one) is in
       let b = and_parts h.scope.locates one a.1 in
       emptied_does h labels target line index placed.includes a.0 b.0 b.1 at.linked
-  statement_does h labels (Y.DoOnce variable start condition body line) index placed is fits held sets at = absurd (cc is)
+  statement_does h labels (Y.DoOnce variable start condition body line) index placed is fits held sets at =
+      absurd (cc is)
   statement_does h labels (Y.DoCount counter start limit step condition body line) index placed is fits held sets at =
       let g = unlocated h in
       let inner = are_statements g.scope h.valued (labels_in body ++ labels) body in
@@ -464,7 +466,8 @@ mutual
       let three = fewer g 3 need (omega arith) all in
       counted_does g labels x body line index placed a.0 b.0 refl (omega (arith, fits)) all three
       (λ y i placed' sets' at'.
-      statements_do (in_turn g b.0 refl three y) (labels_in body ++ labels) body i placed' c.1 (omega (arith, fits)) held
+      statements_do (in_turn g b.0 refl three y) (labels_in body ++ labels) body i placed' c.1 (omega (arith, fits))
+      held
       sets' at') at
   statement_does h labels (Y.Begin (Y.BlockOf head body)) index placed is fits held sets at =
       let inner = are_statements (inside h.scope head body) false (labels_in body ++ []) body in
@@ -501,7 +504,8 @@ mutual
   pub statements_do :
       (h : Home) (labels : List Label) (body : Y.Stmts) (index : ℕ) → PlacedIn h labels →
       are_statements h.scope h.valued labels body ≡ true → statements_need body ≤ h.block.registers →
-      begins_need body ≤ h.block.registers → HasFrame h.ready h.words (statements_set body) → AreStandingWith h.words h.block body index →
+      begins_need body ≤ h.block.registers → HasFrame h.ready h.words (statements_set body) →
+      AreStandingWith h.words h.block body index →
       EachDoesWith h.words h.block labels body index h.left'
   statements_do h labels (Y.EndOfList own) index placed is fits held sets at = tt
   statements_do h labels (Y.StmtThen own first rest) index placed is fits held sets at =
