@@ -37,7 +37,7 @@ begin_by :
     {program : Y.Program} {m : Main program} {input : List ℕ} {acts : ℕ} {valued : Bool} {more b : ℕ} {a : Running}
     (z : Stands m input acts valued more b a) → EachBody m input acts more →
     Does (around_it z) z.labels (begin_of (begin_in z)) z.index left_over
-begin_by {program} {m} {input} {acts} {more = more} {b = b} z each =
+begin_by {program} {m} {input} {acts} {valued = valued} {more = more} {b = b} z each =
     let k = around_it z in
     let x = begin_in z in
     let used = automatic_in_use k.first.state.living + bytes_of (variables_of_block program z.head.number) in
@@ -54,7 +54,7 @@ begin_by {program} {m} {input} {acts} {more = more} {b = b} z each =
           (begin_placed k.call.surroundings.links k.call.code z.index k.environment none_taken z.head z.body z.placed),
     ))
     (λ p numbers o since b'.
-    each false (run_begun z p numbers) b
+    each valued (run_begun z p numbers) b
     (begun_entered z (record { among = o; pass = pass; shallow = shallow; begun = b' }) since)))
     (λ e.
     full_begin_ends k z.labels x z.index left_over more is
@@ -65,8 +65,8 @@ pub knows_begins :
     {program : Y.Program} (m : Main program) (input : List ℕ) (acts : ℕ) (valued : Bool) (more blocks : ℕ)
     (a : Running) → acts + 1 < 2 ^ 64 → IsRunning m input acts valued (suc more) a blocks →
     EachBody m input acts more → (own : List Label) →
-    KnowsBegins (scope_of program m.called a.head a.body) (block_of_run program input acts valued (suc more) a) own
-    left_over
+    KnowsBegins (scope_of program m.called a.head a.body) valued (block_of_run program input acts valued (suc more) a)
+    own left_over
 knows_begins m input acts valued more zero a few h each own labels head body index includes is statements line fits
     begins at =
     let some = h.depth.some in absurd (omega (arith, some))
@@ -78,7 +78,7 @@ knows_begins {program} m input acts valued more (suc b) a few h each own labels 
       head = head;
       body = body;
       index = index;
-      within = within_is m a head body is statements (line, fits, begins);
+      within = within_is m valued a head body is statements (line, fits, begins);
       placed = at;
       few = few;
     } in

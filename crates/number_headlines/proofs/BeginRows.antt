@@ -288,11 +288,14 @@ deep_sound = (
   assigned in_deep deep_spot [] (value_of turn_spot) 14 in_deep_own (value in_deep turn_spot [] in_deep_turn)
       (omega arith),
   (
-    assigned in_deep turn_spot [] (one_less (value_of turn_spot)) 14 in_deep_turn
-        (value in_deep turn_spot [] in_deep_turn, omega arith) (omega arith),
     (
-      ((omega arith, value in_deep turn_spot [] in_deep_turn), (deep_calls, omega arith)),
-      (written in_deep deep_spot 14 2 two_wide in_deep_own (omega arith), tt),
+      (value in_deep turn_spot [] in_deep_turn, omega arith),
+      ((refl, omega arith), omega arith),
+    ),
+    (
+      assigned in_deep turn_spot [] (one_less (value_of turn_spot)) 14 in_deep_turn
+          (value in_deep turn_spot [] in_deep_turn, omega arith) (omega arith),
+      (deep_calls, (written in_deep deep_spot 14 2 two_wide in_deep_own (omega arith), tt)),
     ),
   ),
 )
@@ -363,7 +366,7 @@ recursion_sound = record {
   held = (refl, refl);
   listed = refl;
   statements = (((refl, (record { line = omega arith; level = refl }, refl)), deep_sound), tt);
-  labels = (tt, ((tt, (tt, (tt, (tt, (tt, tt))))), tt));
+  labels = (tt, ((tt, (tt, (tt, (tt, (tt, (tt, tt)))))), tt));
   parameters = tt;
   apart = tt;
   result = tt;
@@ -595,9 +598,9 @@ statements = tt
 
 pub begins_end :
     (input : List ℕ) →
-    M.meaning begins_program input 52
+    M.meaning begins_program input 58
     ≡ Some (record {
-      acts = 52;
+      acts = 58;
       output = 32 ∷ 50 ∷ 50 ∷ 32 ∷ 51 ∷ 53 ∷ 32 ∷ 49 ∷ 32 ∷ 50 ∷ 32 ∷ 51 ∷ 10 ∷ [];
       raised = [];
       end = E.Finished;

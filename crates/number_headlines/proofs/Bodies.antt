@@ -1,8 +1,8 @@
 -- The statements of each block of a program of the class do what they mean, and so do the calls in them, as deep as
 -- they go.
 use Rattle.std.proofs.Common.{◌≡◌, ℕ, zero, suc, ◌+◌, ◌^◌, ◌<◌, ◌≤◌, List, [], ◌∷◌, ◌++◌, length, Bool, true, false}
-use Rattle.std.proofs.Common.{refl, sym, ap, subst, arith}
-use Rattle.std.specs.Prelude.{nat_le, nat_lt}
+use Rattle.std.proofs.Common.{◌⊎◌, inl, inr, refl, sym, ap, subst, arith}
+use Rattle.std.specs.Prelude.{nat_le, nat_lt, not}
 use Rattle.std.proofs.lemmas.Bool.{leb-true}
 use Rattle.std.proofs.lemmas.Bool.Decides.{nat_tests}
 use Rattle.pli_language.specs.declared.condition.Condition.TheVariants as C
@@ -42,14 +42,14 @@ use Rattle.nested_calls.proofs.NestedCalls.{call_coded, call_of, given_in, neste
 use Rattle.nested_calls.proofs.NestedFunctions.{deep_function_ends, nested_function_does}
 use Rattle.number_runs.specs.Knowledge as Left
 use Rattle.number_runs.specs.Knowledge.{IsReady, IsUnraised, IsValued, KnowsAroundTexts, KnowsCalls, KnowsPuts}
-use Rattle.number_runs.specs.Knowledge.{KnowsBegins, KnowsRaises, call_number, call_statement, most_set, KnowsSignals}
+use Rattle.number_runs.specs.Knowledge.{GoesThrough, KnowsBegins, KnowsRaises, call_number, call_statement, most_set, KnowsSignals}
 use Rattle.number_runs.specs.Statements.{statements_set}
 use Rattle.number_runs.specs.Variables.{bytes_of}
 use Rattle.number_runs.proofs.Homes.{none_raised}
 use Rattle.number_runs.proofs.Statements.{body_does}
 use Rattle.number_runs.proofs.Puts.{puts_known}
 use Rattle.number_runs.proofs.Unraised.{around_texts_end}
-use Rattle.number_headlines.specs.Programs.{scope_of}
+use Rattle.number_headlines.specs.Programs.{is_begin_kind, scope_of}
 use Rattle.number_headlines.proofs.Deciding.{by_decision, entry_low}
 use Rattle.number_headlines.proofs.Entered.{entered}
 use Rattle.number_headlines.proofs.CalledBlocks.{are_made, callee_in, entered_at, inner_set, site_in}
@@ -61,43 +61,72 @@ use Rattle.number_headlines.proofs.Mains.{Main, most_for, result_of, run_for}
 use Rattle.number_headlines.proofs.Puts.{constants_known, error_routine, lists_known}
 use Rattle.number_headlines.proofs.Based.{based_known}
 use Rattle.number_headlines.proofs.BeginBodies.{knows_begins}
-use Rattle.number_headlines.proofs.Running.{EachBody, EachGiven, IsCalledForm, IsEntered, IsRunning, Running}
+use Rattle.number_headlines.proofs.Running.{EachBody, EachGiven, IsBegunForm, IsCalledForm, IsEntered, IsRunning, Running}
 use Rattle.number_headlines.proofs.Running.{block_of_run, environment_of_run, told_run, told_running, waited_running}
 
 -- ---- at the end of a block
 
 returns_by :
     {program : Y.Program} (m : Main program) (input : List ℕ) (acts : ℕ) (valued : Bool) (more : ℕ) (a : Running)
-    (blocks : ℕ) → IsRunning m input acts valued more a blocks → IsCalledForm program a → valued ≡ false →
+    (blocks : ℕ) → IsRunning m input acts valued more a blocks →
+    IsCalledForm program valued a ⊎ IsBegunForm program valued a → valued ≡ false →
     IsOwn (block_of_run program input acts valued more a) left_over
-returns_by m input acts false more a blocks h f e =
-    record {
+    ⊎ GoesThrough (block_of_run program input acts valued more a) left_over
+returns_by m input acts false more a blocks h (inl f) e =
+    inl (record {
       owner = f.owner;
       end = f.ends.place;
       near = f.ends.near;
       enough = omega arith;
-      function = refl;
+      function = f.function;
       begun = h.begun;
       kind = f.kind;
       registers = f.saved;
-    }
+    })
+returns_by m input acts false more a blocks h (inr f) e =
+    let shallow = h.shallow in
+    let level = h.level in
+    inr (record {
+      through = record { behind = f.behind; outer = f.outer; rest = f.rest; level = f.level };
+      is = record {
+        begun = h.begun;
+        there = f.there;
+        begins = f.begins;
+        procedure = f.procedure;
+        function = f.function;
+        own = h.level;
+        inner = f.inner;
+        few = omega (arith, shallow, level);
+        found = f.found;
+        registers = f.registers;
+        numbers = f.numbers;
+        owner = f.owner;
+        end = f.ends.place;
+        near = f.ends.near;
+        enough = omega arith;
+      };
+    })
 returns_by m input acts true more a blocks h f e = absurd (cc e)
 
+-- no begin block returns a number
 values_by :
     {program : Y.Program} (m : Main program) (input : List ℕ) (acts : ℕ) (valued : Bool) (more : ℕ) (a : Running)
-    (blocks : ℕ) → IsRunning m input acts valued more a blocks → IsCalledForm program a → valued ≡ true →
-    IsValued (block_of_run program input acts valued more a) left_over
-values_by m input acts false more a blocks h f e = absurd (cc e)
-values_by m input acts true more a blocks h f e =
+    (blocks : ℕ) → IsRunning m input acts valued more a blocks →
+    IsCalledForm program valued a ⊎ IsBegunForm program valued a → not (is_begin_kind a.head.kind) ≡ true →
+    valued ≡ true → IsValued (block_of_run program input acts valued more a) left_over
+values_by m input acts false more a blocks h f may e = absurd (cc e)
+values_by m input acts true more a blocks h (inl f) may e =
     record {
       owner = f.owner;
       end = f.ends.place;
       near = f.ends.near;
       enough = omega arith;
-      function = refl;
+      function = f.function;
       kind = f.kind;
       saved = f.saved;
     }
+values_by m input acts true more a blocks h (inr f) may e =
+    absurd (cc (subst (λ kind. not (is_begin_kind kind) ≡ true) f.kind may))
 
 -- ---- its statements, if the calls in them do what they mean
 
@@ -177,7 +206,7 @@ abbrev EachBegin : {program : Y.Program} → Main program → (input : List ℕ)
     (more : ℕ) → Running → (blocks : ℕ) → Type 0
 EachBegin {program} m input acts valued more a blocks =
     (layers : List Layer → List Layer) → IsRunning m input acts valued more (record a { layers = layers }) blocks →
-    KnowsBegins (scope_of program m.called a.head a.body)
+    KnowsBegins (scope_of program m.called a.head a.body) valued
     (block_of_run program input acts valued more (record a { layers = layers })) (labels_in a.body ++ []) left_over
 
 -- so texts may wait there
@@ -261,8 +290,8 @@ ready once {program} m input acts valued more a blocks few e calls given begins 
         level = refl;
         own = h.level;
         block = h.own;
-        returns = λ may' e. returns_by m input acts valued more a blocks h (h.home may') e;
-        values = λ may' e. values_by m input acts valued more a blocks h (h.home may') e;
+        returns = λ e. returns_by m input acts valued more a blocks h h.home e;
+        values = λ may' e. values_by m input acts valued more a blocks h h.home may' e;
       };
     }
 

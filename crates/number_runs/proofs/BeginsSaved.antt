@@ -45,12 +45,12 @@ mutual
       let b = and_parts s.counts (counts' && inner) a.1 in
       begins_saved program u valued (labels_in body ++ labels) body (and_parts counts' inner b.1).1 few
   begin_saved program s valued labels (Y.Begin (Y.BlockOf head body)) h few =
-      let inner = are_statements (inside s head body) false (labels_in body ++ []) body in
+      let inner = are_statements (inside s head body) valued (labels_in body ++ []) body in
       let a = and_parts (is_line head.line) (s.is_begin head body && inner) h in
       let b = and_parts (s.is_begin head body) inner a.1 in
-      let m = (statements_taken 0 (inside s head body) false (labels_in body ++ []) body b.1
+      let m = (statements_taken 0 (inside s head body) valued (labels_in body ++ []) body b.1
       (omega (arith, few))).registers in
-      let n = begins_saved program (inside s head body) false (labels_in body ++ []) body b.1 (omega (arith, few)) in
+      let n = begins_saved program (inside s head body) valued (labels_in body ++ []) body b.1 (omega (arith, few)) in
       omega (arith, m, n)
   begin_saved program s valued labels (Y.Null line) h few = omega arith
   begin_saved program s valued labels (Y.Assign target source line) h few = omega arith
@@ -127,7 +127,7 @@ mutual
       let b = and_parts s.counts (counts' && inner) a.1 in
       begins_unneeded u valued (labels_in body ++ labels) body none (and_parts counts' inner b.1).1
   begin_unneeded s valued labels (Y.Begin (Y.BlockOf head body)) none h =
-      let inner = are_statements (inside s head body) false (labels_in body ++ []) body in
+      let inner = are_statements (inside s head body) valued (labels_in body ++ []) body in
       let a = and_parts (is_line head.line) (s.is_begin head body && inner) h in
       let b = and_parts (s.is_begin head body) inner a.1 in
       absurd (cc (sym (none head body) ∙ b.0))

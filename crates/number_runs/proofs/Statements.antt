@@ -17,7 +17,7 @@ use Rattle.program_places.specs.Placed.{Placed}
 use Rattle.program_places.proofs.Labels.{marked_with}
 use Rattle.program_places.proofs.Marks.{placed_back, placed_front}
 use Rattle.program_runs.specs.Statements.{AreMarked, AreMarkedWith, Block, Does, DoesWith, EachDoes, EachDoesWith}
-use Rattle.program_runs.specs.Statements.{set_aside}
+use Rattle.program_runs.specs.Statements.{IsOwn, set_aside}
 use Rattle.program_runs.proofs.Statements.{null_does, return_does, stop_does}
 use Rattle.expression_runs.specs.Assignments.{setting_around}
 use Rattle.group_runs.specs.Groups.{list_index}
@@ -34,7 +34,8 @@ use Rattle.counter_runs.proofs.Needs.{does_more}
 use Rattle.counter_runs.proofs.Scalars.{number_counts}
 use Rattle.number_runs.specs.Counting.{count_needs, count_sets, is_count, limit_needs, limit_sets, start_needs}
 use Rattle.number_runs.specs.Counting.{start_sets}
-use Rattle.number_runs.specs.Knowledge.{AreAround, AreStanding, AreStandingWith, HasFrame, IsReady}
+use Rattle.number_runs.specs.Knowledge.{AreAround, AreStanding, AreStandingWith, GoesThrough, HasFrame, IsReady}
+use Rattle.begin_runs.proofs.ThroughReturns.{through_does}
 use Rattle.number_runs.specs.Knowledge.{Includes, MayBeSet, Standing}
 use Rattle.number_runs.specs.Knowledge.{StandingWith}
 use Rattle.number_runs.specs.Numbers.{Scope, are_arguments, gives_lists, is_fixed}
@@ -322,6 +323,16 @@ assignment_does h labels target source line index includes is (inl h') fits sets
 assignment_does h labels target source line index includes is (inr h') fits sets =
     narrowed_does h labels target source line index includes is h' fits sets
 
+-- ---- RETURN
+
+ended_does :
+    (h : Home) (labels : List Label) (line index : ℕ) → is_line line ≡ true →
+    IsOwn h.block h.left' ⊎ GoesThrough h.block h.left' → Coded h labels (Y.Return line) index
+ended_does h labels line index is (inl own) l =
+    return_does h.block line index h.left' (act_of h line is) own l labels
+ended_does h labels line index is (inr t) l =
+    through_does h.block labels t.through line index h.left' (act_of h line is) t.is l
+
 -- ---- all forms
 
 mutual
@@ -418,11 +429,9 @@ mutual
       let c = and_parts taken given b.1 in
       passed_does h labels number level first rest line index placed.includes a.0 b.0 c.0 c.1 fits sets at.linked
   statement_does h labels (Y.Return line) index placed is fits held sets at =
-      let a = and_parts (is_line line) (h.scope.own && (h.scope.returns && not h.valued)) is in
-      let b = and_parts h.scope.own (h.scope.returns && not h.valued) a.1 in
-      let c = and_parts h.scope.returns (not h.valued) b.1 in
-      return_does h.block line index h.left' (act_of h line a.0)
-      ((h.ready.home b.0).returns c.0 (not_true h.valued c.1)) at.linked labels
+      let a = and_parts (is_line line) (h.scope.own && not h.valued) is in
+      let b = and_parts h.scope.own (not h.valued) a.1 in
+      ended_does h labels line index a.0 ((h.ready.home b.0).returns (not_true h.valued b.1)) at.linked
   statement_does h labels (Y.ReturnValue type source line) index placed is fits held sets at =
       let rest = is_fixed type && is_stored h.scope source in
       let a = and_parts (is_line line) (h.scope.own && (h.scope.returns && (h.valued && rest))) is in
@@ -470,7 +479,7 @@ mutual
       held
       sets' at') at
   statement_does h labels (Y.Begin (Y.BlockOf head body)) index placed is fits held sets at =
-      let inner = are_statements (inside h.scope head body) false (labels_in body ++ []) body in
+      let inner = are_statements (inside h.scope head body) h.valued (labels_in body ++ []) body in
       let a = and_parts (is_line head.line) (h.scope.is_begin head body && inner) is in
       let b = and_parts (h.scope.is_begin head body) inner a.1 in
       h.ready.begins labels head body index placed.includes b.0 b.1 (ltb-true head.line (2 ^ 31) a.0)
