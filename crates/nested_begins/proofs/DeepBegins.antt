@@ -1,5 +1,5 @@
 -- Where as many blocks are active as may be BEGIN ends the run.
-use Rattle.std.proofs.Common.{◌≡◌, ℕ, suc, ◌+◌, ◌<◌, ◌≤◌, List, [], ◌∷◌, ◌++◌, length, None, Option, Bool, true, false}
+use Rattle.std.proofs.Common.{◌≡◌, ℕ, suc, ◌+◌, ◌≤◌, List, [], ◌∷◌, ◌++◌, length, None, Option, Bool, true, false}
 use Rattle.std.proofs.Common.{refl, sym, ap, ◌∙◌, subst, arith}
 use Rattle.std.proofs.lemmas.Bool.{eq-eqb}
 use Rattle.std.proofs.lemmas.List.{append_assoc}
@@ -32,15 +32,15 @@ use Rattle.activation_relation.specs.Layers.{Point, services_of}
 use Rattle.run_steps.specs.Items.{Linked}
 use Rattle.run_steps.proofs.Jumps.{back_of, front_of}
 use Rattle.run_steps.proofs.Linking.{size_append}
-use Rattle.run_steps.specs.Reach.{Comes, Family}
+use Rattle.run_steps.specs.Reach.{Comes}
 use Rattle.run_steps.proofs.Reach.{before_closed, comes_on}
-use Rattle.block_runs.specs.InnerBeginnings.{inner_code, inner_ending_code}
-use Rattle.block_runs.specs.Machines.{IsIn, acted}
+use Rattle.block_runs.specs.InnerBeginnings.{inner_code}
+use Rattle.block_runs.specs.Machines.{acted}
 use Rattle.block_runs.proofs.PointActs.{act_comes}
 use Rattle.program_runs.specs.Statements.{Block, Does, IsAmong, own_height, size_in, statement_aims}
 use Rattle.program_runs.proofs.NewestBlocks.{Newest, newest_ancestor, newest_at}
 use Rattle.program_runs.proofs.Statements.{acted_among, statement_closed}
-use Rattle.begin_runs.specs.BeginBlocks.{Inner, begin_of, inner_beginning, inner_layer, list_code}
+use Rattle.begin_runs.specs.BeginBlocks.{Inner, begin_of, inner_beginning, list_code}
 use Rattle.begin_runs.proofs.Meaning.{behind_act}
 use Rattle.nested_calls.proofs.DeepCalls.{deep_means}
 use Rattle.nested_begins.specs.DeepBegins.{IsDeepBegin}

@@ -2,12 +2,10 @@
 use Rattle.std.proofs.Common.{◌≡◌, ℕ, ◌+◌, ◌^◌, ◌<◌, ◌≤◌, List, [], ◌∷◌, ◌++◌, None, refl}
 use Rattle.std.proofs.Common.{sym, ap}
 use Rattle.std.proofs.Common.{◌∙◌, subst, arith}
-use Rattle.std.proofs.lemmas.Int.{ints}
 use Rattle.std.specs.Prelude.{pos}
 use Rattle.rv_meaning.specs.declared.instr.Instr.{Instr}
 use Rattle.rv_meaning.specs.declared.instr.Instr.TheVariants as I
 use Rattle.rv_meaning.specs.Words.{word, sum}
-use Rattle.pli_serving.specs.Answers.{Done}
 use Rattle.pli_serving.specs.Blocks as B
 use Rattle.pli_coding.specs.Assembly.{Plain, Code, size_of}
 use Rattle.pli_coding.specs.Entries.{entered_without_texts, frame_begun}
@@ -19,12 +17,11 @@ use Rattle.activation_relation.specs.FrameLaws.{AreWords}
 use Rattle.activation_relation.specs.Frames.{frame_under, stored, frame_stores}
 use Rattle.activation_relation.specs.Layers.{Point, services_of}
 use Rattle.activation_relation.specs.Points.{Surroundings, Stands}
-use Rattle.activation_relation.proofs.Blocks.{enter_answered}
-use Rattle.activation_relation.proofs.PointSteps.{entered_stands, entered_memory}
+use Rattle.activation_relation.proofs.PointSteps.{entered_memory}
 use Rattle.run_steps.specs.Bodies.{Known, reserved, reserved_are}
 use Rattle.run_steps.proofs.Bodies.{at_place, frame_is, zero_is, constant_piece}
 use Rattle.run_steps.specs.Calls.{Calling}
-use Rattle.run_steps.proofs.Calls.{called, call_done}
+use Rattle.run_steps.proofs.Calls.{called}
 use Rattle.image_runs.specs.Runs.{Whole}
 use Rattle.run_steps.specs.Engine.{Base}
 use Rattle.run_steps.specs.Items.{Linked, At}
@@ -32,21 +29,19 @@ use Rattle.run_steps.proofs.Items.{straight}
 use Rattle.run_steps.proofs.Jumps.{front_of, back_of}
 use Rattle.run_steps.proofs.Linking.{size_append}
 use Rattle.run_steps.specs.Reach.{Family, Reach, reached}
-use Rattle.run_steps.proofs.Reach.{reach_map, reach_then, reach_with, reached_holds}
-use Rattle.run_steps.proofs.Reaching.{reach_moved}
+use Rattle.run_steps.proofs.Reach.{reach_map, reach_then, reached_holds}
 use Rattle.run_steps.specs.Temporaries.{nothing}
 use Rattle.block_runs.specs.Machines.{IsIn, IsImage}
 use Rattle.block_runs.specs.Beginnings.{Beginning, begun_point}
 use Rattle.block_runs.specs.InnerBeginnings.{inner_code}
 use Rattle.block_runs.proofs.BlockEntries.{small_is, word_fits, word_is}
-use Rattle.block_runs.proofs.Places.{IsFrame, word_in, bounds, even_top}
+use Rattle.block_runs.proofs.Places.{IsFrame, word_in, bounds}
 use Rattle.block_runs.proofs.PointGrounds.{StandsIn, call_is, in_known, known_in, point_frame, point_ground}
 use Rattle.block_runs.proofs.PointGrounds.{registers_in}
 use Rattle.block_runs.proofs.StoredGrounds.{StoredOver, making_ground}
 use Rattle.block_runs.proofs.FrameBeginnings.{Begun, IsBegun, outside, all_words, inner_frame_code}
 use Rattle.block_runs.proofs.FrameBeginnings.{new_frame, regs_of}
 use Rattle.block_runs.proofs.FrameBeginnings.{inner_frame_made, inner_stored}
-
 use Rattle.pli_meaning.specs.Control.{finish}
 use Rattle.pli_meaning.specs.World.{ending}
 use Rattle.pli_meaning.specs.declared.outcome.End.TheVariants as E

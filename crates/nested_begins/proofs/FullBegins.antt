@@ -1,7 +1,7 @@
 -- BEGIN of a block whose variables pass the limit on what is AUTOMATIC ends the run.
-use Rattle.std.proofs.Common.{◌≡◌, ℕ, suc, ◌+◌, List, ◌++◌, length, true, refl, sym, ap, ◌∙◌, subst, arith}
+use Rattle.std.proofs.Common.{◌≡◌, ℕ, ◌+◌, List, ◌++◌, length, true, sym, subst, arith}
 use Rattle.std.specs.Prelude.{nat_lt}
-use Rattle.pli_meaning.specs.Control.{Label, Meaning, act, finish, flow_on, ◌>>=◌, ◌>>◌}
+use Rattle.pli_meaning.specs.Control.{Label, Meaning, act, flow_on, ◌>>=◌, ◌>>◌}
 use Rattle.pli_meaning.specs.Executing as M
 use Rattle.pli_meaning.specs.Raising.{at_line}
 use Rattle.pli_meaning.specs.StorageState.{most_activations}
@@ -25,7 +25,8 @@ use Rattle.program_runs.proofs.NewestBlocks.{newest_at, newest_own}
 use Rattle.program_runs.proofs.Statements.{acted_among, statement_closed}
 use Rattle.nested_calls.proofs.FullVariables.{over_comes}
 use Rattle.begin_runs.specs.BeginBlocks.{Inner, IsBegin, begin_of, begun_in, entry_index, inner_beginning, list_code}
-use Rattle.begin_runs.proofs.Begins.{begin_coded, behind_beginning, ending_of, here_of, premises, whole_code, whole_size}
+use Rattle.begin_runs.proofs.Begins.{begin_coded, behind_beginning, ending_of, here_of, premises, whole_code}
+use Rattle.begin_runs.proofs.Begins.{whole_size}
 use Rattle.begin_runs.proofs.Meaning.{begin_means, behind_act, comes_passed, list_of, within, within_closed}
 use Rattle.nested_begins.specs.BegunVariables.{AreFullIn}
 use Rattle.nested_begins.proofs.DeepBegins.{finish_on}
@@ -79,4 +80,4 @@ full_begin_ends k labels x index left' more h full p numbers c wanted f o paid t
     (sym (finish_on (E.Limit L.Automatic) w.acts made.state listed))
     (over_comes (E.Limit L.Automatic) w.acts made.state
     (made.ends size g' (I.inner_stands ready) (omega (arith, paid, n))
-    (front_of x.variables (list_code k x ++ ending_of z) l1) at')))))))) 
+    (front_of x.variables (list_code k x ++ ending_of z) l1) at'))))))))

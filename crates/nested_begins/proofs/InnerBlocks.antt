@@ -2,7 +2,7 @@
 use Rattle.std.proofs.Common.{◌≡◌, ℕ, suc, ◌<◌, ◌≤◌, List, ◌∷◌, refl, sym, ap, ◌∙◌, subst, arith}
 use Rattle.pli_typing.specs.TypedTree as Y
 use Rattle.pli_meaning.specs.Control.{Label}
-use Rattle.pli_meaning.specs.StorageState.{ancestor, ancestor_at, height_of, newest_height}
+use Rattle.pli_meaning.specs.StorageState.{ancestor, height_of, newest_height}
 use Rattle.activation_relation.specs.Chains.{AreActive}
 use Rattle.activation_relation.specs.CodeStores.{most_levels}
 use Rattle.activation_relation.specs.Landing.{resumed, with_units}

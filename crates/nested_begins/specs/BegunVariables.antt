@@ -1,5 +1,5 @@
 -- The variables of a begin block: any number of constant size, with INITIAL values and without.
-use Rattle.std.specs.Prelude.{ℕ, ◌+◌, ◌<◌, ◌≤◌, ◌≡◌, List, [], ◌∷◌, Some, length}
+use Rattle.std.specs.Prelude.{ℕ, ◌+◌, ◌≤◌, ◌≡◌, List, Some, length}
 use Rattle.pli_typing.specs.TypedTree as Y
 use Rattle.pli_meaning.specs.Control.{Label, finish}
 use Rattle.pli_meaning.specs.DeclaredShapes.{declared_variable, variables_of_block}

@@ -1,6 +1,5 @@
 -- BEGIN where as many blocks are active as may be.
 use Rattle.std.specs.Prelude.{ℕ, suc, ◌+◌, ◌^◌, ◌<◌, ◌≤◌, ◌≡◌, nat_lt, false, length, None, List}
-use Rattle.pli_typing.specs.TypedTree as Y
 use Rattle.pli_meaning.specs.Control.{Label}
 use Rattle.pli_meaning.specs.Executing.{entered}
 use Rattle.pli_meaning.specs.StorageState.{most_activations}

@@ -1,5 +1,5 @@
 -- A begin block is nested in the blocks around it, whose variables are the same ones there.
-use Rattle.std.specs.Prelude.{ℕ, ◌<◌, ◌≤◌, List}
+use Rattle.std.specs.Prelude.{ℕ, ◌≤◌, List}
 use Rattle.pli_typing.specs.TypedTree as Y
 use Rattle.pli_meaning.specs.Control.{Label}
 use Rattle.activation_relation.specs.Layers.{Point}

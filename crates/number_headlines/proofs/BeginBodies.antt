@@ -1,6 +1,6 @@
 -- Each begin block of the class does what it means, if the statements of blocks that may be entered one level less deep
 -- do: it ends the run where one more block may not be active, or where its variables pass the limit.
-use Rattle.std.proofs.Common.{◌≡◌, ℕ, zero, suc, ◌+◌, ◌^◌, ◌<◌, ◌≤◌, List, [], ◌∷◌, ◌++◌, length, Bool, true, false, arith}
+use Rattle.std.proofs.Common.{◌≡◌, ℕ, zero, suc, ◌+◌, ◌^◌, ◌<◌, List, length, Bool, false, arith}
 use Rattle.std.specs.Prelude.{nat_le, nat_lt}
 use Rattle.std.proofs.lemmas.Bool.{leb-true}
 use Rattle.std.proofs.lemmas.Bool.Decides.{nat_tests}
@@ -22,7 +22,8 @@ use Rattle.number_runs.specs.Variables.{bytes_of}
 use Rattle.number_runs.proofs.Statements.{body_marked}
 use Rattle.number_headlines.specs.Programs.{scope_of}
 use Rattle.number_headlines.proofs.BeginEntered.{begun_entered}
-use Rattle.number_headlines.proofs.BeginSites.{Stands, around_it, begin_in, is_begin, is_deep_begin, run_begun, within_is}
+use Rattle.number_headlines.proofs.BeginSites.{Stands, around_it, begin_in, is_begin, is_deep_begin, run_begun}
+use Rattle.number_headlines.proofs.BeginSites.{within_is}
 use Rattle.number_headlines.proofs.BeginWords.{full_in, all_in}
 use Rattle.number_headlines.proofs.Deciding.{by_decision}
 use Rattle.number_headlines.proofs.Mains.{Main}
@@ -36,7 +37,7 @@ begin_by :
     {program : Y.Program} {m : Main program} {input : List ℕ} {acts : ℕ} {valued : Bool} {more b : ℕ} {a : Running}
     (z : Stands m input acts valued more b a) → EachBody m input acts more →
     Does (around_it z) z.labels (begin_of (begin_in z)) z.index left_over
-begin_by {program} {m} {input} {acts} {more = more} {b = b} z each =
+begin_by {program} {m} {input} {acts} {valued = valued} {more = more} {b = b} z each =
     let k = around_it z in
     let x = begin_in z in
     let used = automatic_in_use k.first.state.living + bytes_of (variables_of_block program z.head.number) in
@@ -53,7 +54,7 @@ begin_by {program} {m} {input} {acts} {more = more} {b = b} z each =
           (begin_placed k.call.surroundings.links k.call.code z.index k.environment none_taken z.head z.body z.placed),
     ))
     (λ p numbers o since b'.
-    each false (run_begun z p numbers) b
+    each valued (run_begun z p numbers) b
     (begun_entered z (record { among = o; pass = pass; shallow = shallow; begun = b' }) since)))
     (λ e.
     full_begin_ends k z.labels x z.index left_over more is
@@ -64,8 +65,8 @@ pub knows_begins :
     {program : Y.Program} (m : Main program) (input : List ℕ) (acts : ℕ) (valued : Bool) (more blocks : ℕ)
     (a : Running) → acts + 1 < 2 ^ 64 → IsRunning m input acts valued (suc more) a blocks →
     EachBody m input acts more → (own : List Label) →
-    KnowsBegins (scope_of program m.called a.head a.body) (block_of_run program input acts valued (suc more) a) own
-    left_over
+    KnowsBegins (scope_of program m.called a.head a.body) valued (block_of_run program input acts valued (suc more) a)
+    own left_over
 knows_begins m input acts valued more zero a few h each own labels head body index includes is statements line fits
     begins at =
     let some = h.depth.some in absurd (omega (arith, some))
@@ -77,7 +78,7 @@ knows_begins {program} m input acts valued more (suc b) a few h each own labels 
       head = head;
       body = body;
       index = index;
-      within = within_is m a head body is statements (line, fits, begins);
+      within = within_is m valued a head body is statements (line, fits, begins);
       placed = at;
       few = few;
     } in

@@ -1,26 +1,26 @@
 -- A begin block of the class where its first statement begins: what is known in the block around it is known of it.
-use Rattle.std.proofs.Common.{◌≡◌, ◌⊎◌, inl, inr, ℕ, suc, ◌+◌, ◌^◌, ◌<◌, ◌≤◌, List, [], ◌∷◌, length, Bool, true, false, refl}
+use Rattle.std.proofs.Common.{◌≡◌, ◌⊎◌, inl, inr, ℕ, suc, ◌+◌, ◌^◌, ◌<◌, ◌≤◌, List, [], ◌∷◌, length, Bool}
+use Rattle.std.proofs.Common.{true, false, refl}
 use Rattle.std.proofs.Common.{sym, ap, ◌∙◌, subst, arith, Some}
 use Rattle.std.specs.Prelude.{◌&&◌, ◌==◌, if◌then◌else◌, nat_le, nat_lt, not}
 use Rattle.std.specs.List.{list_any}
 use Rattle.std.proofs.lemmas.Bool.{and_from, and_parts, leb-true, ltb-true}
 use Rattle.std.proofs.lemmas.Bool.Decides.{nat_tests}
-use Rattle.pli_language.specs.declared.condition.Condition.{Condition}
 use Rattle.pli_typing.specs.TypedTree as Y
 use Rattle.pli_meaning.specs.DeclaredShapes.{declared_variable, variables_of_block}
 use Rattle.pli_meaning.specs.Executing as M
-use Rattle.pli_meaning.specs.StorageState.{Activation, force, most_activations}
+use Rattle.pli_meaning.specs.StorageState.{Activation, force, height_of, most_activations}
 use Rattle.pli_coding.specs.Environments.{block_around, none_taken}
 use Rattle.pli_coding.specs.Frames.{fixed_size, parameters_of_block}
 use Rattle.pli_coding.specs.Images.{linked_code}
 use Rattle.activation_relation.specs.FrameLaws.{with_waits}
 use Rattle.activation_relation.specs.Frames.{lower_end, upper_top}
-use Rattle.activation_relation.specs.Layers.{Layer, Point}
+use Rattle.activation_relation.specs.Layers.{Point}
 use Rattle.activation_relation.specs.ServiceLaws.{IsSystem}
 use Rattle.program_places.specs.Programs.{code_for, environment_for}
 use Rattle.program_places.proofs.Inner.{begin_placed}
 use Rattle.program_runs.specs.Starts.{image_parts}
-use Rattle.program_runs.specs.Statements.{Block, IsAmong, IsBegun}
+use Rattle.program_runs.specs.Statements.{Block, IsAmong, IsBegun, as_outer}
 use Rattle.expression_runs.specs.Variables.{IsNumber, Spot, number_declared, variable_of}
 use Rattle.element_runs.specs.Arrays.{IsArray}
 use Rattle.element_runs.proofs.Outer.{outer_array}
@@ -32,10 +32,12 @@ use Rattle.variable_runs.proofs.Lists.{layers_after}
 use Rattle.argument_runs.specs.Parameters.{parameter_of}
 use Rattle.block_headlines.proofs.Constants.{called_of_program}
 use Rattle.list_calls.specs.Passed.{IsTelling}
-use Rattle.list_calls.proofs.Telling.{Tells, over_telling, tells_each, told_own}
-use Rattle.begin_runs.specs.BeginBlocks.{AreMade, IsBegin, begun_in, inner_beginning, inner_layer}
+use Rattle.list_calls.proofs.Telling.{over_telling, tells_each, told_own}
+use Rattle.begin_runs.specs.BeginBlocks.{AreMade, begun_in, inner_beginning, inner_layer}
 use Rattle.nested_begins.proofs.BegunVariables.{all_begun_in, known_begun_in}
 use Rattle.nested_begins.proofs.InnerBlocks.{inner_known, inner_nested, inner_number, inner_over}
+use Rattle.nested_begins.proofs.InnerBlocks.{own_parent}
+use Rattle.nested_calls.proofs.NestedVariables.{same_ancestor}
 use Rattle.number_runs.specs.Arrays.{bounds_if, is_array_if}
 use Rattle.number_runs.specs.Narrow.{is_narrow_if, type_if}
 use Rattle.number_runs.specs.Numbers.{has_none, is_array_known, is_known, is_narrow_known, is_parameter_if, is_place}
@@ -56,7 +58,8 @@ use Rattle.number_headlines.proofs.Loops.{after_waits, after_words}
 use Rattle.number_headlines.proofs.Mains.{Main, made_system, surroundings_for}
 use Rattle.number_headlines.proofs.Places.{alike_at, around_is, is_around}
 use Rattle.number_headlines.proofs.Pointers.{none_holding, none_pointing}
-use Rattle.number_headlines.proofs.Running.{IsEntered, Running, block_of_run, free_among, table_later}
+use Rattle.number_headlines.proofs.Running.{IsBegunForm, IsCalledForm, IsEntered, Running, block_of_run}
+use Rattle.number_headlines.proofs.Running.{free_among, table_later}
 use Rattle.number_headlines.proofs.Telling.{serial_given, serials_small}
 
 -- ---- at a point of the block around it
@@ -67,7 +70,7 @@ pub record At {program : Y.Program} {m : Main program} {input : List ℕ} {acts 
     pub among : IsAmong (around_it z) numbers p
     pub pass : PassesNone z
     pub shallow : nat_lt (length (around_it z).first.state.activations) most_activations ≡ true
-    pub begun : IsBegun (block_of_run program input acts false more (run_begun z p numbers))
+    pub begun : IsBegun (block_of_run program input acts valued more (run_begun z p numbers))
 
 abbrev pub made_at :
     {program : Y.Program} → {m : Main program} → {input : List ℕ} → {acts : ℕ} → {valued : Bool} → {more b : ℕ} →
@@ -117,7 +120,7 @@ own_known_in :
     {p : Point} {numbers : ℕ → ℕ} {z : Stands m input acts valued more b a} (o : At z p numbers) (x : Spot)
     (d : Y.DeclaredVariable) → (x.block ≡ z.head.number) × (x.level ≡ z.head.level) →
     declared_variable program (variable_of x) ≡ Some d →
-    IsKnown (block_of_run program input acts false more (run_begun z p numbers)) x d
+    IsKnown (block_of_run program input acts valued more (run_begun z p numbers)) x d
 own_known_in {program} {a = a} {p = p} {numbers = numbers} {z = z} o x d own is =
     let at = own_in z x d own is in
     known_begun_in (around_it z) z.labels (begin_in z) z.index p numbers
@@ -128,7 +131,7 @@ outer_known_in :
     {program : Y.Program} {m : Main program} {input : List ℕ} {acts : ℕ} {valued : Bool} {more b : ℕ} {a : Running}
     {p : Point} {numbers : ℕ → ℕ} {z : Stands m input acts valued more b a} (o : At z p numbers) (x : Spot)
     (d : Y.DeclaredVariable) → x.level ≤ a.head.level → IsKnown (around_it z) x d →
-    IsKnown (block_of_run program input acts false more (run_begun z p numbers)) x d
+    IsKnown (block_of_run program input acts valued more (run_begun z p numbers)) x d
 outer_known_in {more = more} {p = p} {numbers = numbers} {z = z} o x d low is =
     inner_known (around_it z) z.labels (begin_in z) z.index more x d (is_begin z o.shallow) z.running.nested low is p
     numbers o.among (made_at o) o.begun
@@ -137,8 +140,8 @@ number_in :
     {program : Y.Program} {m : Main program} {input : List ℕ} {acts : ℕ} {valued : Bool} {more b : ℕ} {a : Running}
     {p : Point} {numbers : ℕ → ℕ} {z : Stands m input acts valued more b a} (o : At z p numbers) (x : Spot) →
     is_known (scope_of program m.called z.head z.body) x ≡ true →
-    IsNumber (block_of_run program input acts false more (run_begun z p numbers)) x
-number_in {program} {m} {input} {acts} {more = more} {a = a} {p = p} {numbers = numbers} {z = z} o x h =
+    IsNumber (block_of_run program input acts valued more (run_begun z p numbers)) x
+number_in {program} {m} {input} {acts} {valued = valued} {more = more} {a = a} {p = p} {numbers = numbers} {z = z} o x h =
     by (stands_in z x parts.0)
   where
     plain : Bool
@@ -152,7 +155,7 @@ number_in {program} {m} {input} {acts} {more = more} {a = a} {p = p} {numbers = 
         ((x.level ≤ a.head.level)
         × (list_any (is_place x) (places_to (environment_for program a.head) a.head.level) ≡ true))
         ⊎ ((x.block ≡ z.head.number) × (x.level ≡ z.head.level)) →
-        IsNumber (block_of_run program input acts false more (run_begun z p numbers)) x
+        IsNumber (block_of_run program input acts valued more (run_begun z p numbers)) x
     by (inl low) =
         inner_number (around_it z) z.labels (begin_in z) z.index more x (is_begin z o.shallow) z.running.nested low.0
         (z.running.variables x
@@ -160,16 +163,16 @@ number_in {program} {m} {input} {acts} {more = more} {a = a} {p = p} {numbers = 
         parts.1)) p numbers o.among (made_at o) o.begun
     by (inr own) =
         let there = found (declared_variable program (variable_of x)) parts.1 in
-        known_number (block_of_run program input acts false more (run_begun z p numbers)) x there.initial
+        known_number (block_of_run program input acts valued more (run_begun z p numbers)) x there.initial
         (own_known_in o x (number_declared there.initial) own there.is)
 
 array_in :
     {program : Y.Program} {m : Main program} {input : List ℕ} {acts : ℕ} {valued : Bool} {more b : ℕ} {a : Running}
     {p : Point} {numbers : ℕ → ℕ} {z : Stands m input acts valued more b a} (o : At z p numbers) (x : Spot) →
     is_array_known (scope_of program m.called z.head z.body) x ≡ true →
-    IsArray (block_of_run program input acts false more (run_begun z p numbers)) x
+    IsArray (block_of_run program input acts valued more (run_begun z p numbers)) x
     (bounds_if (declared_variable program (variable_of x)))
-array_in {program} {m} {input} {acts} {more = more} {a = a} {p = p} {numbers = numbers} {z = z} o x h =
+array_in {program} {m} {input} {acts} {valued = valued} {more = more} {a = a} {p = p} {numbers = numbers} {z = z} o x h =
     by (stands_in z x parts.0)
   where
     array : Bool
@@ -183,26 +186,26 @@ array_in {program} {m} {input} {acts} {more = more} {a = a} {p = p} {numbers = n
         ((x.level ≤ a.head.level)
         × (list_any (is_place x) (places_to (environment_for program a.head) a.head.level) ≡ true))
         ⊎ ((x.block ≡ z.head.number) × (x.level ≡ z.head.level)) →
-        IsArray (block_of_run program input acts false more (run_begun z p numbers)) x
+        IsArray (block_of_run program input acts valued more (run_begun z p numbers)) x
         (bounds_if (declared_variable program (variable_of x)))
     by (inl low) =
-        outer_array (around_it z) (block_of_run program input acts false more (run_begun z p numbers)) x
+        outer_array (around_it z) (block_of_run program input acts valued more (run_begun z p numbers)) x
         (bounds_if (declared_variable program (variable_of x))) (λ d is. outer_known_in o x d low.0 is)
         (z.running.arrays x
         (and_from (list_any (is_place x) (places_to (environment_for program a.head) a.head.level)) array low.1
         parts.1))
     by (inr own) =
         let there = found_array (declared_variable program (variable_of x)) parts.1 in
-        array_known (block_of_run program input acts false more (run_begun z p numbers)) x
+        array_known (block_of_run program input acts valued more (run_begun z p numbers)) x
         (declared_variable program (variable_of x)) there (own_known_in o x there.declared own there.is)
 
 narrow_in :
     {program : Y.Program} {m : Main program} {input : List ℕ} {acts : ℕ} {valued : Bool} {more b : ℕ} {a : Running}
     {p : Point} {numbers : ℕ → ℕ} {z : Stands m input acts valued more b a} (o : At z p numbers) (x : Spot) →
     is_narrow_known (scope_of program m.called z.head z.body) x ≡ true →
-    IsScalar (block_of_run program input acts false more (run_begun z p numbers)) x
+    IsScalar (block_of_run program input acts valued more (run_begun z p numbers)) x
     (type_if (declared_variable program (variable_of x)))
-narrow_in {program} {m} {input} {acts} {more = more} {a = a} {p = p} {numbers = numbers} {z = z} o x h =
+narrow_in {program} {m} {input} {acts} {valued = valued} {more = more} {a = a} {p = p} {numbers = numbers} {z = z} o x h =
     by (stands_in z x parts.0)
   where
     narrow : Bool
@@ -216,17 +219,17 @@ narrow_in {program} {m} {input} {acts} {more = more} {a = a} {p = p} {numbers = 
         ((x.level ≤ a.head.level)
         × (list_any (is_place x) (places_to (environment_for program a.head) a.head.level) ≡ true))
         ⊎ ((x.block ≡ z.head.number) × (x.level ≡ z.head.level)) →
-        IsScalar (block_of_run program input acts false more (run_begun z p numbers)) x
+        IsScalar (block_of_run program input acts valued more (run_begun z p numbers)) x
         (type_if (declared_variable program (variable_of x)))
     by (inl low) =
-        outer_narrow (around_it z) (block_of_run program input acts false more (run_begun z p numbers)) x
+        outer_narrow (around_it z) (block_of_run program input acts valued more (run_begun z p numbers)) x
         (type_if (declared_variable program (variable_of x))) (λ d is. outer_known_in o x d low.0 is)
         (z.running.narrows x
         (and_from (list_any (is_place x) (places_to (environment_for program a.head) a.head.level)) narrow low.1
         parts.1))
     by (inr own) =
         let there = found_narrow (declared_variable program (variable_of x)) parts.1 in
-        narrow_known (block_of_run program input acts false more (run_begun z p numbers)) x
+        narrow_known (block_of_run program input acts valued more (run_begun z p numbers)) x
         (declared_variable program (variable_of x)) there (own_known_in o x there.declared own there.is)
 
 -- its name is told, of a frame around or of its own
@@ -235,9 +238,9 @@ own_named_in :
     {p : Point} {numbers : ℕ → ℕ} {z : Stands m input acts valued more b a} (o : At z p numbers) (x : Spot)
     (d : Y.DeclaredVariable) → (x.block ≡ z.head.number) × (x.level ≡ z.head.level) →
     declared_variable program (variable_of x) ≡ Some d →
-    (is : IsNumber (block_of_run program input acts false more (run_begun z p numbers)) x) → is.serial < 2 ^ 64 →
-    IsTelling (block_of_run program input acts false more (run_begun z p numbers)) x
-own_named_in {program} {m} {input} {acts} {more = more} {a = a} {p = p} {numbers = numbers} {z = z} o x d own there is
+    (is : IsNumber (block_of_run program input acts valued more (run_begun z p numbers)) x) → is.serial < 2 ^ 64 →
+    IsTelling (block_of_run program input acts valued more (run_begun z p numbers)) x
+own_named_in {program} {m} {input} {acts} {valued = valued} {more = more} {a = a} {p = p} {numbers = numbers} {z = z} o x d own there is
     few =
     let w = surroundings_for program input acts in
     let e = begin_environment_for program a z.head in
@@ -249,7 +252,7 @@ own_named_in {program} {m} {input} {acts} {more = more} {a = a} {p = p} {numbers
     let c = M.activation_of y.head y.entry (length p.state.activations + 1) in
     let all = all_in z p numbers o.among o.pass in
     let at = own_in z x d own there in
-    told_own (block_of_run program input acts false more (run_begun z p numbers)) x is (all_made image_parts φ xs start)
+    told_own (block_of_run program input acts valued more (run_begun z p numbers)) x is (all_made image_parts φ xs start)
     (layer_after image_parts (start.state.serials + 1) φ xs) p.control.layers c p.state.activations _
     (tells_each w (linked_code (code_for program)) e start φ p.control.layers c p.state.activations _ xs 0 all.listed
     all.declared (record { bindings = []; active = refl }) at.1)
@@ -259,10 +262,10 @@ outer_named_in :
     {program : Y.Program} {m : Main program} {input : List ℕ} {acts : ℕ} {valued : Bool} {more b : ℕ} {a : Running}
     {p : Point} {numbers : ℕ → ℕ} {z : Stands m input acts valued more b a} (o : At z p numbers) (x : Spot) →
     x.level ≤ a.head.level → IsTelling (around_it z) x →
-    IsTelling (block_of_run program input acts false more (run_begun z p numbers)) x
+    IsTelling (block_of_run program input acts valued more (run_begun z p numbers)) x
 unfolding inner_over
-outer_named_in {program} {m} {input} {acts} {more = more} {a = a} {p = p} {numbers = numbers} {z = z} o x low is =
-    over_telling {k = around_it z} {inner = block_of_run program input acts false more (run_begun z p numbers)}
+outer_named_in {program} {m} {input} {acts} {valued = valued} {more = more} {a = a} {p = p} {numbers = numbers} {z = z} o x low is =
+    over_telling {k = around_it z} {inner = block_of_run program input acts valued more (run_begun z p numbers)}
     {numbers = numbers} x
     (inner_over (around_it z) z.labels (begin_in z) z.index more (is_begin z o.shallow) z.running.nested p numbers
     o.among (made_at o) o.begun) z.running.nested z.running.begun o.among (omega arith) low refl refl
@@ -272,9 +275,9 @@ named_in :
     {program : Y.Program} {m : Main program} {input : List ℕ} {acts : ℕ} {valued : Bool} {more b : ℕ} {a : Running}
     {p : Point} {numbers : ℕ → ℕ} {z : Stands m input acts valued more b a} (o : At z p numbers) (x : Spot) →
     is_known (scope_of program m.called z.head z.body) x ≡ true →
-    (block_of_run program input acts false more (run_begun z p numbers)).first.state.serials < 2 ^ 64 →
-    IsTelling (block_of_run program input acts false more (run_begun z p numbers)) x
-named_in {program} {m} {input} {acts} {more = more} {a = a} {p = p} {numbers = numbers} {z = z} o x h small =
+    (block_of_run program input acts valued more (run_begun z p numbers)).first.state.serials < 2 ^ 64 →
+    IsTelling (block_of_run program input acts valued more (run_begun z p numbers)) x
+named_in {program} {m} {input} {acts} {valued = valued} {more = more} {a = a} {p = p} {numbers = numbers} {z = z} o x h small =
     by (stands_in z x parts.0)
   where
     plain : Bool
@@ -285,13 +288,13 @@ named_in {program} {m} {input} {acts} {more = more} {a = a} {p = p} {numbers = n
     parts = and_parts (list_any (is_place x) (places_to (environment_for program z.head) z.head.level)) plain h
 
     inner : Block
-    inner = block_of_run program input acts false more (run_begun z p numbers)
+    inner = block_of_run program input acts valued more (run_begun z p numbers)
 
     by :
         ((x.level ≤ a.head.level)
         × (list_any (is_place x) (places_to (environment_for program a.head) a.head.level) ≡ true))
         ⊎ ((x.block ≡ z.head.number) × (x.level ≡ z.head.level)) →
-        IsTelling (block_of_run program input acts false more (run_begun z p numbers)) x
+        IsTelling (block_of_run program input acts valued more (run_begun z p numbers)) x
     by (inl low) =
         outer_named_in o x low.0
         (z.running.named x
@@ -334,15 +337,72 @@ around_in {program} {m} {input} {acts} {more = more} {a = a} {p = p} {numbers = 
 
 -- ---- all of it
 
-returns_none : (kind : Y.BlockKind) → kind ≡ Y.BeginBlock → not (is_begin_kind kind) ≡ true → ⊥
-returns_none kind e h = cc (subst (λ x. not (is_begin_kind x) ≡ true) e h)
+-- a RETURN in it goes on where one in the block around it does
+begun_form :
+    {program : Y.Program} {m : Main program} {input : List ℕ} {acts : ℕ} {valued : Bool} {more b : ℕ} {a : Running}
+    {p : Point} {numbers : ℕ → ℕ} (z : Stands m input acts valued more b a) (o : At z p numbers) →
+    IsCalledForm program valued a ⊎ IsBegunForm program valued a → IsBegunForm program valued (run_begun z p numbers)
+unfolding inner_over
+begun_form {more = more} {a = a} {p = p} {numbers = numbers} z o (inl f) =
+    let h = z.running in
+    let k = around_it z in
+    let inside = z.within.level in
+    let over = inner_over k z.labels (begin_in z) z.index more (is_begin z o.shallow) h.nested p numbers o.among
+    (made_at o) o.begun in
+    record {
+      kind = z.within.kind;
+      behind = 0;
+      outer = as_outer k z.labels;
+      rest = a.form.outers;
+      level = a.head.level;
+      there = refl;
+      begins = (refl, tt);
+      procedure = f.kind;
+      function = f.function;
+      inner = omega (arith, inside);
+      found = ap height_of (same_ancestor {numbers = numbers} a.head.level over h.nested o.among (omega arith)
+          (omega arith))
+          ∙ own_parent h.nested h.begun o.among;
+      registers = f.saved;
+      numbers = refl;
+      owner = f.owner;
+      ends = f.ends;
+    }
+begun_form {more = more} {a = a} {p = p} {numbers = numbers} z o (inr f) =
+    let h = z.running in
+    let k = around_it z in
+    let inside = z.within.level in
+    let level = h.level in
+    let inner = f.inner in
+    let over = inner_over k z.labels (begin_in z) z.index more (is_begin z o.shallow) h.nested p numbers o.among
+    (made_at o) o.begun in
+    record {
+      kind = z.within.kind;
+      behind = suc f.behind;
+      outer = f.outer;
+      rest = f.rest;
+      level = f.level;
+      there = f.there;
+      begins = (refl, f.begins);
+      procedure = f.procedure;
+      function = f.function;
+      inner = omega (arith, inside, level, inner);
+      found = ap height_of (same_ancestor {numbers = numbers} f.level over h.nested o.among (omega arith)
+          (omega (arith, level, inner)))
+          ∙ f.found;
+      registers = f.registers;
+      numbers = f.numbers;
+      owner = f.owner;
+      ends = f.ends;
+    }
 
 pub begun_entered :
     {program : Y.Program} {m : Main program} {input : List ℕ} {acts : ℕ} {valued : Bool} {more b : ℕ} {a : Running}
     {p : Point} {numbers : ℕ → ℕ} (z : Stands m input acts valued more b a) (o : At z p numbers) →
     (around_it z).first.state.world.acts < p.state.world.acts →
-    IsEntered m input acts false more (run_begun z p numbers) b
-begun_entered {program} {m} {input} {acts} {more = more} {b = b} {a = a} {p = p} {numbers = numbers} z o since =
+    IsEntered m input acts valued more (run_begun z p numbers) b
+begun_entered {program} {m} {input} {acts} {valued = valued} {more = more} {b = b} {a = a} {p = p} {numbers = numbers} z o
+    since =
     let h = z.running in
     let w = surroundings_for program input acts in
     let k = around_it z in
@@ -387,7 +447,7 @@ begun_entered {program} {m} {input} {acts} {more = more} {b = b} {a = a} {p = p}
         shallow = omega (arith, deep);
         level = refl;
         held = record { own = z.within.fits; begins = z.within.begins; all = h.held.all };
-        home = λ may. absurd (returns_none z.head.kind z.within.kind may);
+        home = inr (begun_form z o h.home);
         placed = begin_placed w.links (linked_code (code_for program)) z.index k.environment none_taken z.head z.body
             z.placed;
         statements = z.within.statements;
@@ -406,7 +466,7 @@ begun_entered {program} {m} {input} {acts} {more = more} {b = b} {a = a} {p = p}
             made_system image_parts φ xs start c
             (subst (λ as'. IsSystem (force as' c)) (sym o.among.later.activations) (h.unraised c));
         idle = made_idle φ xs start;
-        told = called_of_program program k (block_of_run program input acts false more (run_begun z p numbers)) numbers
+        told = called_of_program program k (block_of_run program input acts valued more (run_begun z p numbers)) numbers
             h.told o.among refl refl o.begun;
         free = record {
           layer = layer_after image_parts serial φ xs;

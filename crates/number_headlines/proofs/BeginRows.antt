@@ -29,7 +29,7 @@ use Rattle.run_steps.proofs.Linking.{linked_length}
 use Rattle.expression_runs.specs.Assignments.{assignment}
 use Rattle.expression_runs.specs.Variables.{Spot, number_declared, variable_of, whole}
 use Rattle.pli_headline.specs.Headline.{FitsMemory, parts}
-use Rattle.number_headlines.specs.BeginRows.{anew_body, anew_spot, begin_at, begins_body, begins_main, begins_program}
+use Rattle.number_headlines.specs.BeginRows.{anew_body, anew_spot, begins_body, begins_main, begins_program}
 use Rattle.number_headlines.specs.BeginRows.{deep_body, deep_spot, last_label, less_body, less_procedure, put_number}
 use Rattle.number_headlines.specs.BeginRows.{recursion_body, recursion_procedure, sum_of, turn_spot, turns, twice_body}
 use Rattle.number_headlines.specs.BeginRows.{twice_spot}
@@ -252,9 +252,10 @@ written w x line width formats n less =
 
 twice_sound : SoundStmts in_twice twice_body
 twice_sound = (
-  assigned in_twice twice_spot [] (sum_of (value_of anew_spot) (value_of anew_spot)) 7 in_twice_own
-      (value in_twice anew_spot (number_items 10) in_twice_anew,
-        value in_twice anew_spot (number_items 10) in_twice_anew) (omega arith),
+  assigned in_twice twice_spot [] (sum_of (value_of anew_spot) (value_of anew_spot)) 7 in_twice_own (
+    value in_twice anew_spot (number_items 10) in_twice_anew,
+    value in_twice anew_spot (number_items 10) in_twice_anew,
+  ) (omega arith),
   (
     calls_less,
     (
@@ -287,11 +288,14 @@ deep_sound = (
   assigned in_deep deep_spot [] (value_of turn_spot) 14 in_deep_own (value in_deep turn_spot [] in_deep_turn)
       (omega arith),
   (
-    assigned in_deep turn_spot [] (one_less (value_of turn_spot)) 14 in_deep_turn
-        (value in_deep turn_spot [] in_deep_turn, omega arith) (omega arith),
     (
-      ((omega arith, value in_deep turn_spot [] in_deep_turn), (deep_calls, omega arith)),
-      (written in_deep deep_spot 14 2 two_wide in_deep_own (omega arith), tt),
+      (value in_deep turn_spot [] in_deep_turn, omega arith),
+      ((refl, omega arith), omega arith),
+    ),
+    (
+      assigned in_deep turn_spot [] (one_less (value_of turn_spot)) 14 in_deep_turn
+          (value in_deep turn_spot [] in_deep_turn, omega arith) (omega arith),
+      (deep_calls, (written in_deep deep_spot 14 2 two_wide in_deep_own (omega arith), tt)),
     ),
   ),
 )
@@ -362,7 +366,7 @@ recursion_sound = record {
   held = (refl, refl);
   listed = refl;
   statements = (((refl, (record { line = omega arith; level = refl }, refl)), deep_sound), tt);
-  labels = (tt, ((tt, (tt, (tt, (tt, (tt, tt))))), tt));
+  labels = (tt, ((tt, (tt, (tt, (tt, (tt, (tt, tt)))))), tt));
   parameters = tt;
   apart = tt;
   result = tt;
@@ -594,9 +598,9 @@ statements = tt
 
 pub begins_end :
     (input : List ℕ) →
-    M.meaning begins_program input 60
+    M.meaning begins_program input 58
     ≡ Some (record {
-      acts = 60;
+      acts = 58;
       output = 32 ∷ 50 ∷ 50 ∷ 32 ∷ 51 ∷ 53 ∷ 32 ∷ 49 ∷ 32 ∷ 50 ∷ 32 ∷ 51 ∷ 10 ∷ [];
       raised = [];
       end = E.Finished;

@@ -1,6 +1,6 @@
 -- A begin block among the statements of a running block of the class: what BEGIN asks of it.
-use Rattle.std.proofs.Common.{◌≡◌, ℕ, suc, ◌+◌, ◌^◌, ◌<◌, ◌≤◌, List, [], ◌∷◌, ◌++◌, Bool, true, false, refl, sym, ap, ◌∙◌}
-use Rattle.std.proofs.Common.{length, subst, arith}
+use Rattle.std.proofs.Common.{◌≡◌, ℕ, suc, ◌+◌, ◌^◌, ◌<◌, ◌≤◌, List, [], ◌∷◌, ◌++◌, Bool, true, false, refl, ap, ◌∙◌}
+use Rattle.std.proofs.Common.{None, length, arith}
 use Rattle.std.specs.Prelude.{◌&&◌, ◌==◌, nat_le, nat_lt}
 use Rattle.std.proofs.lemmas.Bool.{and_parts, eqb-true, leb-true, ltb-true}
 use Rattle.pli_typing.specs.TypedTree as Y
@@ -34,7 +34,8 @@ use Rattle.number_headlines.proofs.Running.{IsRunning, Running, around_for, bloc
 
 -- ---- one of the class
 
-pub record Within {program : Y.Program} (m : Main program) (a : Running) (head : Y.BlockHead) (body : Y.Stmts) : Type 0
+pub record Within {program : Y.Program} (m : Main program) (valued : Bool) (a : Running) (head : Y.BlockHead)
+    (body : Y.Stmts) : Type 0
   where
     pub kind : head.kind ≡ Y.BeginBlock
     pub level : head.level ≡ suc a.head.level
@@ -45,7 +46,7 @@ pub record Within {program : Y.Program} (m : Main program) (a : Running) (head :
     pub plain : are_plain (variables_of_block program head.number) ≡ true
     pub waiting : statements_set body ≤ most_waiting
     pub statements :
-        are_statements (scope_of program m.called head body) false (labels_in body ++ []) body ≡ true
+        are_statements (scope_of program m.called head body) valued (labels_in body ++ []) body ≡ true
     pub line : head.line < 2 ^ 31
     pub fits : statements_need body ≤ a.form.registers
     pub begins : begins_need body ≤ a.form.registers
@@ -61,12 +62,12 @@ none_of [] h = refl
 none_of (x ∷ xs) h = absurd (cc h)
 
 pub within_is :
-    {program : Y.Program} (m : Main program) (a : Running) (head : Y.BlockHead) (body : Y.Stmts) →
+    {program : Y.Program} (m : Main program) (valued : Bool) (a : Running) (head : Y.BlockHead) (body : Y.Stmts) →
     is_begun program a.head head body ≡ true →
-    are_statements (scope_of program m.called head body) false (labels_in body ++ []) body ≡ true →
+    are_statements (scope_of program m.called head body) valued (labels_in body ++ []) body ≡ true →
     (head.line < 2 ^ 31) × (statements_need body ≤ a.form.registers) × (begins_need body ≤ a.form.registers) →
-    Within m a head body
-within_is {program} m a head body h statements fits =
+    Within m valued a head body
+within_is {program} m valued a head body h statements fits =
     let e = environment_for program head in
     let bare = has_none (parameters_of_block program head.number) in
     let plain = are_plain (variables_of_block program head.number) in
@@ -106,7 +107,7 @@ pub record Stands {program : Y.Program} (m : Main program) (input : List ℕ) (a
     pub head : Y.BlockHead
     pub body : Y.Stmts
     pub index : ℕ
-    pub within : Within m a head body
+    pub within : Within m valued a head body
     pub placed :
         Placed (links_for program) (linked_code (code_for program)) index
         (stmt_code (environment_of_run program a) none_taken (Y.Begin (Y.BlockOf head body)))
@@ -158,6 +159,7 @@ run_begun {program} {input = input} {acts = acts} {a = a} z p numbers =
       texts = λ es. es;
       form = record {
         entry = entry_index x z.index;
+        function = None;
         behind = λ q. q;
         owner = a.form.owner;
         registers = a.form.registers;
@@ -170,10 +172,10 @@ run_begun {program} {input = input} {acts = acts} {a = a} z p numbers =
 pub set_in :
     {program : Y.Program} {m : Main program} {input : List ℕ} {acts : ℕ} {valued : Bool} {more b : ℕ} {a : Running}
     (z : Stands m input acts valued more b a) → (begin_in z).words ≡ statements_set z.body
-set_in {program} {m} z =
+set_in {program} {m} {valued = valued} z =
     let fits = z.within.fits in
     let all = z.running.held.all in
-    words_set (scope_of program m.called z.head z.body) false (environment_for program z.head) z.head.number z.body
+    words_set (scope_of program m.called z.head z.body) valued (environment_for program z.head) z.head.number z.body
     (plain_known (variables_of_block program z.head.number) z.within.plain) z.within.statements
     (omega (arith, fits, all))
 

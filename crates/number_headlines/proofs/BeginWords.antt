@@ -1,5 +1,5 @@
 -- The variables of a begin block of the class: made where it begins, unless they pass the limit.
-use Rattle.std.proofs.Common.{◌≡◌, ℕ, suc, ◌+◌, ◌^◌, ◌<◌, ◌≤◌, List, [], ◌∷◌, ◌++◌, Bool, true, false, refl, sym, ap, ◌∙◌}
+use Rattle.std.proofs.Common.{◌≡◌, ℕ, suc, ◌+◌, ◌<◌, ◌≤◌, List, [], ◌∷◌, ◌++◌, Bool, refl, sym, ap, ◌∙◌}
 use Rattle.std.proofs.Common.{length, None, Some, inr, subst, arith}
 use Rattle.std.specs.Prelude.{slice_get}
 use Rattle.pli_typing.specs.TypedTree as Y
@@ -9,24 +9,23 @@ use Rattle.pli_meaning.specs.Raising.{at_line}
 use Rattle.pli_meaning.specs.StorageState.{automatic_in_use, most_automatic}
 use Rattle.pli_types.specs.Templates.{Template}
 use Rattle.pli_coding.specs.Allocating.{act_code}
-use Rattle.pli_coding.specs.Assembly.{Code, Datum, size_of}
+use Rattle.pli_coding.specs.Assembly.{size_of}
 use Rattle.pli_coding.specs.Entries.{block_left, entered_without_texts, frame_begun, frame_ended, variables_code}
 use Rattle.pli_coding.specs.Environments.{Environment, Owner, none_taken, owned_by}
-use Rattle.pli_coding.specs.Frames.{automatic_place, fixed_size, parameters_of_block, temporary_bytes, variable_place}
+use Rattle.pli_coding.specs.Frames.{automatic_place, fixed_size, parameters_of_block, variable_place}
 use Rattle.pli_coding.specs.Images.{linked_code}
 use Rattle.pli_coding.specs.Instructions.{move}
 use Rattle.pli_coding.specs.Registers.{a0, frame_register}
-use Rattle.pli_coding.specs.Statements.{stmt_code, stmts_code}
+use Rattle.pli_coding.specs.Statements.{stmts_code}
 use Rattle.activation_relation.specs.Frames.{lower_end, upper_top}
 use Rattle.activation_relation.specs.Layers.{Point}
 use Rattle.activation_relation.proofs.Returning.{in_use_later}
-use Rattle.run_steps.specs.DataNamed.{IsNamed}
 use Rattle.run_steps.specs.Items.{Linked}
 use Rattle.run_steps.proofs.DataNamed.{is_named_back, is_named_front}
 use Rattle.block_runs.proofs.Places.{bounds}
 use Rattle.program_places.specs.Programs.{code_for, environment_for, links_for}
 use Rattle.program_runs.specs.Starts.{image_parts}
-use Rattle.program_runs.specs.Statements.{Block, IsAmong}
+use Rattle.program_runs.specs.Statements.{IsAmong}
 use Rattle.expression_runs.specs.Variables.{Spot, variable_of}
 use Rattle.variable_runs.specs.Lists.{Among, made_code}
 use Rattle.begin_runs.specs.BeginBlocks.{begun_in, inner_layer, variables_index}

@@ -1,8 +1,8 @@
 -- The statements of each block of a program of the class do what they mean, and so do the calls in them, as deep as
 -- they go.
 use Rattle.std.proofs.Common.{◌≡◌, ℕ, zero, suc, ◌+◌, ◌^◌, ◌<◌, ◌≤◌, List, [], ◌∷◌, ◌++◌, length, Bool, true, false}
-use Rattle.std.proofs.Common.{refl, sym, ap, subst, arith}
-use Rattle.std.specs.Prelude.{nat_le, nat_lt}
+use Rattle.std.proofs.Common.{◌⊎◌, inl, inr, refl, sym, ap, subst, arith}
+use Rattle.std.specs.Prelude.{nat_le, nat_lt, not}
 use Rattle.std.proofs.lemmas.Bool.{leb-true}
 use Rattle.std.proofs.lemmas.Bool.Decides.{nat_tests}
 use Rattle.pli_language.specs.declared.condition.Condition.TheVariants as C
@@ -23,7 +23,7 @@ use Rattle.activation_relation.specs.Layers.{Layer}
 use Rattle.run_steps.specs.Items.{Linked}
 use Rattle.run_steps.proofs.Jumps.{back_of}
 use Rattle.run_steps.proofs.Linking.{size_append}
-use Rattle.program_places.specs.Programs.{code_for, environment_for, links_for, procedures_index, program_environment}
+use Rattle.program_places.specs.Programs.{code_for, links_for, procedures_index, program_environment}
 use Rattle.program_places.proofs.Callees.{callee_stands}
 use Rattle.program_places.proofs.Found.{known}
 use Rattle.program_places.proofs.Functions.{function_stands}
@@ -43,7 +43,7 @@ use Rattle.nested_calls.proofs.NestedFunctions.{deep_function_ends, nested_funct
 use Rattle.number_runs.specs.Knowledge as Left
 use Rattle.number_runs.specs.Knowledge.{IsReady, IsUnraised, IsValued, KnowsAroundTexts, KnowsCalls, KnowsPuts}
 use Rattle.number_runs.specs.Knowledge.{KnowsRaises, call_number, call_statement, most_set, KnowsSignals, KnowsBegins}
-use Rattle.number_runs.specs.Knowledge.{KnowsReads}
+use Rattle.number_runs.specs.Knowledge.{KnowsReads, GoesThrough}
 use Rattle.number_runs.specs.Numbers.{without_located}
 use Rattle.number_runs.specs.Statements.{statements_set}
 use Rattle.number_runs.specs.Variables.{bytes_of}
@@ -52,7 +52,7 @@ use Rattle.number_runs.proofs.Statements.{body_does}
 use Rattle.number_runs.proofs.Gets.{reads_known}
 use Rattle.number_runs.proofs.Puts.{puts_known}
 use Rattle.number_runs.proofs.Unraised.{around_texts_end}
-use Rattle.number_headlines.specs.Programs.{scope_of}
+use Rattle.number_headlines.specs.Programs.{is_begin_kind, scope_of}
 use Rattle.number_headlines.proofs.Deciding.{by_decision, entry_low}
 use Rattle.number_headlines.proofs.Entered.{entered}
 use Rattle.number_headlines.proofs.CalledBlocks.{are_made, callee_in, entered_at, inner_set, site_in}
@@ -66,41 +66,71 @@ use Rattle.number_headlines.proofs.Based.{based_known, placed_known, told_reache
 use Rattle.number_headlines.proofs.Running.{EachBody, EachGiven, IsEntered, IsRunning, Running, block_of_run, told_run}
 use Rattle.number_headlines.proofs.Running.{told_running, waited_running, IsCalledForm, environment_of_run}
 use Rattle.number_headlines.proofs.BeginBodies.{knows_begins}
+use Rattle.number_headlines.proofs.Running.{IsBegunForm}
 
 -- ---- at the end of a block
 
 returns_by :
     {program : Y.Program} (m : Main program) (input : List ℕ) (acts : ℕ) (valued : Bool) (more : ℕ) (a : Running)
-    (blocks : ℕ) → IsRunning m input acts valued more a blocks → IsCalledForm program a → valued ≡ false →
+    (blocks : ℕ) → IsRunning m input acts valued more a blocks →
+    IsCalledForm program valued a ⊎ IsBegunForm program valued a → valued ≡ false →
     IsOwn (block_of_run program input acts valued more a) left_over
-returns_by m input acts false more a blocks h f e =
-    record {
+    ⊎ GoesThrough (block_of_run program input acts valued more a) left_over
+returns_by m input acts false more a blocks h (inl f) e =
+    inl (record {
       owner = f.owner;
       end = f.ends.place;
       near = f.ends.near;
       enough = omega arith;
-      function = refl;
+      function = f.function;
       begun = h.begun;
       kind = f.kind;
       registers = f.saved;
-    }
+    })
+returns_by m input acts false more a blocks h (inr f) e =
+    let shallow = h.shallow in
+    let level = h.level in
+    inr (record {
+      through = record { behind = f.behind; outer = f.outer; rest = f.rest; level = f.level };
+      is = record {
+        begun = h.begun;
+        there = f.there;
+        begins = f.begins;
+        procedure = f.procedure;
+        function = f.function;
+        own = h.level;
+        inner = f.inner;
+        few = omega (arith, shallow, level);
+        found = f.found;
+        registers = f.registers;
+        numbers = f.numbers;
+        owner = f.owner;
+        end = f.ends.place;
+        near = f.ends.near;
+        enough = omega arith;
+      };
+    })
 returns_by m input acts true more a blocks h f e = absurd (cc e)
 
+-- no begin block returns a number
 values_by :
     {program : Y.Program} (m : Main program) (input : List ℕ) (acts : ℕ) (valued : Bool) (more : ℕ) (a : Running)
-    (blocks : ℕ) → IsRunning m input acts valued more a blocks → IsCalledForm program a → valued ≡ true →
-    IsValued (block_of_run program input acts valued more a) left_over
-values_by m input acts false more a blocks h f e = absurd (cc e)
-values_by m input acts true more a blocks h f e =
+    (blocks : ℕ) → IsRunning m input acts valued more a blocks →
+    IsCalledForm program valued a ⊎ IsBegunForm program valued a → not (is_begin_kind a.head.kind) ≡ true →
+    valued ≡ true → IsValued (block_of_run program input acts valued more a) left_over
+values_by m input acts false more a blocks h f may e = absurd (cc e)
+values_by m input acts true more a blocks h (inl f) may e =
     record {
       owner = f.owner;
       end = f.ends.place;
       near = f.ends.near;
       enough = omega arith;
-      function = refl;
+      function = f.function;
       kind = f.kind;
       saved = f.saved;
     }
+values_by m input acts true more a blocks h (inr f) may e =
+    absurd (cc (subst (λ kind. not (is_begin_kind kind) ≡ true) f.kind may))
 
 -- ---- its statements, if the calls in them do what they mean
 
@@ -205,7 +235,7 @@ abbrev EachBegin : {program : Y.Program} → Main program → (input : List ℕ)
     (more : ℕ) → Running → (blocks : ℕ) → Type 0
 EachBegin {program} m input acts valued more a blocks =
     (layers : List Layer → List Layer) → IsRunning m input acts valued more (record a { layers = layers }) blocks →
-    KnowsBegins (scope_of program m.called a.head a.body)
+    KnowsBegins (scope_of program m.called a.head a.body) valued
     (block_of_run program input acts valued more (record a { layers = layers })) (labels_in a.body ++ []) left_over
 
 -- so texts may wait there
@@ -295,8 +325,8 @@ ready once {program} m input acts valued more a blocks few e calls given begins 
         level = refl;
         own = h.level;
         block = h.own;
-        returns = λ may' e. returns_by m input acts valued more a blocks h (h.home may') e;
-        values = λ may' e. values_by m input acts valued more a blocks h (h.home may') e;
+        returns = λ e. returns_by m input acts valued more a blocks h h.home e;
+        values = λ may' e. values_by m input acts valued more a blocks h h.home may' e;
       };
     }
 

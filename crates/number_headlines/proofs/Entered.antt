@@ -393,7 +393,13 @@ entered once {program} m {input} {acts} {valued} {more} {b} {a} {p} {numbers} o 
         level = refl;
         held = called_held m v i.head i.body i.statements i.fits i.begins
             (entered_at i k call p numbers) refl refl;
-        home = λ may. record { kind = refl; saved = omega arith; ends = ends_by v once m i; owner = refl };
+        home = inl (record {
+          function = refl;
+          kind = refl;
+          saved = omega arith;
+          ends = ends_by v once m i;
+          owner = refl;
+        });
         placed = body_placed once program i.head i.body (result_of v) m.loadable i.is;
         statements = i.statements;
         fits = i.fits;

@@ -1,6 +1,6 @@
 -- The main procedure of a program of the class: each of its statements does what it means, and so it keeps the
 -- headline.
-use Rattle.std.proofs.Common.{◌≡◌, ℕ, ◌+◌, ◌<◌, List, [], ◌∷◌, ◌++◌, length, None, true, false, refl, sym, ap, ◌∙◌, ◌^◌}
+use Rattle.std.proofs.Common.{◌≡◌, ℕ, ◌+◌, ◌<◌, List, [], ◌∷◌, ◌++◌, length, None, true, false, refl, sym, ap, ◌∙◌, ◌^◌, inl}
 use Rattle.std.proofs.Common.{subst, arith}
 use Rattle.std.specs.List.{list_any}
 use Rattle.std.proofs.lemmas.Bool.{and_parts}
@@ -261,12 +261,13 @@ main_running once {program} m input acts b =
         shallow = omega (arith, level);
         level = refl;
         held = called_held m false m.head m.body m.statements m.fits m.begins (main_run m input acts) refl refl;
-        home = λ may. record {
+        home = inl (record {
+          function = refl;
           kind = refl;
           saved = omega arith;
           ends = end_is once program m.head m.body m.loadable found;
           owner = refl;
-        };
+        });
         placed = body_placed once program m.head m.body None m.loadable found;
         statements = m.statements;
         fits = m.fits;

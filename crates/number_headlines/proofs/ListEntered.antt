@@ -551,12 +551,13 @@ given_entered once {program} m {input} {acts} {valued} {more} {b} {a} {ns} {v} o
         shallow = omega (arith, level);
         level = sym (ap (λ (ψ : Layer). ψ.level) same');
         held = called_held m v i.head i.body i.statements i.fits i.begins (run_given o) refl refl;
-        home = λ may. record {
+        home = inl (record {
+          function = refl;
           kind = ap (λ (ψ : Layer). is_begin ψ.kind) same';
           saved = let saved = ap (λ (ψ : Layer). ψ.saved) same' in omega (arith, saved);
           ends = taking_ends once program i.head i.body xs v m.loadable received (omega (arith, inside));
           owner = refl;
-        };
+        });
         placed = taking_body_placed once program i.head i.body xs v m.loadable received (omega (arith, inside));
         statements = i.statements;
         fits = i.fits;

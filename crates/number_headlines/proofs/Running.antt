@@ -1,13 +1,14 @@
 -- A block of a program of the class where it runs: what is known at its first statement.
 use Rattle.std.proofs.Common.{◌≡◌, ℕ, suc, ◌+◌, ◌*◌, ◌%◌, ◌^◌, ◌<◌, ◌≤◌, List, [], ◌∷◌, ◌++◌, length, Option, None}
-use Rattle.std.proofs.Common.{Some, Bool, true, false, refl, sym, ap, ◌∙◌, subst, arith}
+use Rattle.std.proofs.Common.{Some, Bool, true, false, refl, sym, ap, ◌∙◌, ◌⊎◌, inl, inr, drop, subst, arith}
 use Rattle.pli_language.specs.declared.condition.Condition.{Condition}
 use Rattle.pli_typing.specs.Signatures.{Fixed}
 use Rattle.pli_typing.specs.TypedTree as Y
 use Rattle.pli_meaning.specs.DeclaredShapes.{shape_of, variables_of_block}
 use Rattle.pli_meaning.specs.Executing.{begun, entered, labels_in}
 use Rattle.pli_meaning.specs.Raising.{Around, Entry, at_line}
-use Rattle.pli_meaning.specs.StorageState.{automatic_in_use, force, most_activations, most_automatic}
+use Rattle.pli_meaning.specs.StorageState.{ancestor_at, automatic_in_use, force, height_of, most_activations}
+use Rattle.pli_meaning.specs.StorageState.{most_automatic}
 use Rattle.pli_serving.specs.ServiceState as S
 use Rattle.pli_coding.specs.Environments.{BlockOwner, Environment, Owner, block_around, none_taken, owned_by}
 use Rattle.pli_coding.specs.Frames.{result}
@@ -40,6 +41,7 @@ use Rattle.function_runs.specs.Functions.{function_entry}
 use Rattle.parameter_runs.specs.Around.{IsParameterAround}
 use Rattle.counter_runs.proofs.Known.{array_told, number_told}
 use Rattle.counter_runs.proofs.Words.{begun_telling}
+use Rattle.begin_runs.specs.ThroughReturns.{AreBegins}
 use Rattle.block_headlines.specs.Constants.{IsOf}
 use Rattle.nested_calls.specs.Nested.{IsNested}
 use Rattle.variable_runs.specs.Known.{IsKnown}
@@ -82,20 +84,23 @@ with_entries texts k = record k { first = with_texts (texts k.first.control.entr
 
 -- ---- as it is called
 
--- how it came to run: the index of its entry, its first point behind its act of entry, of which a begin block has none,
--- where a RETURN in it goes, the registers that its code may write, and the blocks further out to which it may go on
+-- how it came to run: the index of its entry, what it returns behind a call, its first point behind its act of entry, of
+-- which a begin block has none, where a RETURN in it goes, the registers that its code may write, and the blocks further
+-- out to which it may go on
 pub record Form : Type 0 where
   pub entry : ℕ
+  pub function : Option Function
   pub behind : Point → Point
   pub owner : Owner
   pub registers : ℕ
   pub outers : List Outer
 
 -- a procedure's or a function's own block
-abbrev pub called_form : (entry : ℕ) → Procedure → Form
-called_form entry x =
+abbrev pub called_form : (valued : Bool) → (entry : ℕ) → Procedure → Form
+called_form valued entry x =
     record {
       entry = entry;
+      function = function_by valued;
       behind = acted x.head.line;
       owner = BlockOwner (record { number = x.head.number; level = x.head.level });
       registers = x.saved;
@@ -142,7 +147,7 @@ block_of_run program input acts valued more a =
         call = a.call;
         entry = a.form.entry;
         end = a.end;
-        function = function_by valued;
+        function = a.form.function;
       };
       first = a.form.behind a.made;
       environment = environment_of_run program a;
@@ -167,7 +172,7 @@ run_of valued w c index p numbers =
       made = c.made (begun_at w c p numbers);
       layers = λ ls. ls;
       texts = λ es. es;
-      form = called_form c.calling.entry c.procedure;
+      form = called_form valued c.calling.entry c.procedure;
     }
 
 -- ---- what is known there
@@ -206,11 +211,31 @@ pub record IsHeld (a : Running) : Type 0 where
   pub all : a.form.registers ≤ held_registers
 
 -- it is a procedure's or a function's own block
-pub record IsCalledForm (program : Y.Program) (a : Running) : Type 0 where
+pub record IsCalledForm (program : Y.Program) (valued : Bool) (a : Running) : Type 0 where
+  pub function : a.form.function ≡ function_by valued
   pub kind : is_begin a.layer.kind ≡ false
   pub saved : a.form.registers ≤ a.layer.saved
   pub ends : IsEnd (links_for program) a.head.number a.end
   pub owner : a.form.owner ≡ BlockOwner (record { number = a.head.number; level = a.head.level })
+
+-- or a begin block, behind so many others, of the procedure or function of a level
+pub record IsBegunForm (program : Y.Program) (valued : Bool) (a : Running) : Type 0 where
+  pub kind : a.head.kind ≡ Y.BeginBlock
+  pub behind : ℕ
+  pub outer : Outer
+  pub rest : List Outer
+  pub level : ℕ
+  pub there : drop behind a.form.outers ≡ outer ∷ rest
+  pub begins : (is_begin a.layer.kind ≡ true) × AreBegins behind a.form.outers
+  pub procedure : is_begin outer.beginning.layer.kind ≡ false
+  pub function : outer.function ≡ function_by valued
+  pub inner : level < a.layer.level
+  pub found :
+      height_of (ancestor_at (a.form.behind a.made).state level) ≡ length outer.point.state.activations + 1
+  pub registers : a.form.registers ≤ outer.beginning.layer.saved
+  pub numbers : a.numbers ≡ outer.numbers
+  pub owner : a.form.owner ≡ BlockOwner (record { number = outer.beginning.head.number; level = level })
+  pub ends : IsEnd (links_for program) outer.beginning.head.number outer.end
 
 pub record IsRunning {program : Y.Program} (m : Main program) (input : List ℕ) (acts : ℕ) (valued : Bool) (more : ℕ)
     (a : Running) (blocks : ℕ) : Type 0
@@ -219,7 +244,7 @@ pub record IsRunning {program : Y.Program} (m : Main program) (input : List ℕ)
     pub shallow : a.head.level < 16
     pub level : a.head.level ≡ a.layer.level
     pub held : IsHeld a
-    pub home : (scope_of program m.called a.head a.body).returns ≡ true → IsCalledForm program a
+    pub home : IsCalledForm program valued a ⊎ IsBegunForm program valued a
     pub placed :
         Placed (links_for program) (linked_code (code_for program)) a.index
         (stmts_code (environment_of_run program a) none_taken a.body)
@@ -357,9 +382,30 @@ pub held_alike :
 held_alike h = record { own = h.own; begins = h.begins; all = h.all }
 
 pub form_alike :
-    {program : Y.Program} {a : Running} {layers : List Layer → List Layer} {texts : List S.Entry → List S.Entry} →
-    IsCalledForm program a → IsCalledForm program (record a { layers = layers; texts = texts })
-form_alike h = record { kind = h.kind; saved = h.saved; ends = h.ends; owner = h.owner }
+    {program : Y.Program} {valued : Bool} {a : Running} {layers : List Layer → List Layer}
+    {texts : List S.Entry → List S.Entry} → IsCalledForm program valued a ⊎ IsBegunForm program valued a →
+    IsCalledForm program valued (record a { layers = layers; texts = texts })
+    ⊎ IsBegunForm program valued (record a { layers = layers; texts = texts })
+form_alike (inl h) =
+    inl (record { function = h.function; kind = h.kind; saved = h.saved; ends = h.ends; owner = h.owner })
+form_alike (inr h) =
+    inr (record {
+      kind = h.kind;
+      behind = h.behind;
+      outer = h.outer;
+      rest = h.rest;
+      level = h.level;
+      there = h.there;
+      begins = h.begins;
+      procedure = h.procedure;
+      function = h.function;
+      inner = h.inner;
+      found = h.found;
+      registers = h.registers;
+      numbers = h.numbers;
+      owner = h.owner;
+      ends = h.ends;
+    })
 
 -- ---- while limits of loops wait in words of its frame
 
@@ -381,7 +427,7 @@ told_running {program} {m} {input} {acts} {valued} {more} {a} {blocks} h waits =
       shallow = h.shallow;
       level = h.level;
       held = held_alike h.held;
-      home = λ may. form_alike (h.home may);
+      home = form_alike h.home;
       placed = h.placed;
       statements = h.statements;
       fits = h.fits;
@@ -435,7 +481,7 @@ waited_running {program} {m} {input} {acts} {valued} {more} {a} {blocks} h entri
       shallow = h.shallow;
       level = h.level;
       held = held_alike h.held;
-      home = λ may. form_alike (h.home may);
+      home = form_alike h.home;
       placed = h.placed;
       statements = h.statements;
       fits = h.fits;

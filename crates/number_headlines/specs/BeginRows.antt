@@ -1,5 +1,5 @@
 -- A worked row with begin blocks: one in the turns of a loop that counts, with a procedure and another begin block in
--- it, and one in a procedure, from where that calls itself.
+-- it, and one in a procedure, from where that calls itself and returns.
 use Rattle.std.specs.Prelude.{ℕ, ◌≡◌, List, [], ◌∷◌, Some, None}
 use Rattle.pli_language.specs.Tree as T
 use Rattle.pli_typing.specs.TypedTree as Y
@@ -28,7 +28,7 @@ use Rattle.number_headlines.specs.PutRows.{of_width, shown}
 -- END;
 -- CALL Q;
 -- Q: PROCEDURE; BEGIN; DECLARE K FIXED BINARY(31);
---   K = X; X = X - 1; IF 0 < X THEN CALL Q; PUT EDIT (K) (F(2));
+--   K = X; IF X < 1 THEN RETURN; X = X - 1; CALL Q; PUT EDIT (K) (F(2));
 -- END; END Q;
 
 abbrev pub turn_spot : Spot
@@ -87,10 +87,10 @@ less_body = Y.StmtThen [] (assignment anew_spot (one_less (value_of anew_spot)) 
 abbrev pub deep_body : Y.Stmts
 deep_body =
     Y.StmtThen [] (assignment deep_spot (value_of turn_spot) 14)
-    (Y.StmtThen [] (assignment turn_spot (one_less (value_of turn_spot)) 14)
     (Y.StmtThen []
-    (Y.If (Y.NumbersCompared Y.IsLess (Y.NumberConstant 0) (value_of turn_spot)) (nest_call 5 0 14) 14)
-    (Y.StmtThen [] (put_number deep_spot 14 2) (Y.EndOfList []))))
+    (Y.If (Y.NumbersCompared Y.IsLess (value_of turn_spot) (Y.NumberConstant 1)) (Y.Return 14) 14)
+    (Y.StmtThen [] (assignment turn_spot (one_less (value_of turn_spot)) 14)
+    (Y.StmtThen [] (nest_call 5 0 14) (Y.StmtThen [] (put_number deep_spot 14 2) (Y.EndOfList [])))))
 
 abbrev pub recursion_body : Y.Stmts
 recursion_body = Y.StmtThen [] (Y.Begin (Y.BlockOf (begin_at 6 2 13) deep_body)) (Y.EndOfList [])
@@ -118,9 +118,9 @@ pub record BeginsKept : Type 0 where
   -- Y begins anew in each turn, and K in each call: 22 and 24 + 11, and 1 2 3
   pub ends :
       (input : List ℕ) →
-      meaning begins_program input 60
+      meaning begins_program input 58
       ≡ Some (record {
-        acts = 60;
+        acts = 58;
         output = 32 ∷ 50 ∷ 50 ∷ 32 ∷ 51 ∷ 53 ∷ 32 ∷ 49 ∷ 32 ∷ 50 ∷ 32 ∷ 51 ∷ 10 ∷ [];
         raised = [];
         end = E.Finished;

@@ -197,7 +197,7 @@ pub fn holder_kept()
 }
 
 /// A worked row with begin blocks: in the turns of a loop, in one another, with a procedure in one, and in a procedure
-/// that calls itself from there.
+/// that calls itself and returns from there.
 pub fn begins_kept()
     ensures { BeginsKept }
 {

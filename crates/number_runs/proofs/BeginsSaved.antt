@@ -1,17 +1,17 @@
 -- Begin blocks save no registers: their procedure saves what their temporaries take.
-use Rattle.std.proofs.Common.{◌≡◌, ℕ, ◌≤◌, List, [], ◌∷◌, ◌++◌, true, false, refl, sym, ◌∙◌, arith}
-use Rattle.std.specs.Prelude.{◌&&◌, ◌||◌, Bool, max}
+use Rattle.std.proofs.Common.{◌≡◌, ℕ, ◌≤◌, List, [], ◌++◌, true, false, refl, sym, ◌∙◌, arith}
+use Rattle.std.specs.Prelude.{◌&&◌, ◌||◌, Bool}
 use Rattle.std.proofs.lemmas.Bool.{and_parts}
 use Rattle.pli_typing.specs.TypedTree as Y
 use Rattle.pli_meaning.specs.Control.{Label}
 use Rattle.pli_meaning.specs.Executing.{labels_in}
 use Rattle.pli_coding.specs.Environments.{Environment}
 use Rattle.pli_coding.specs.Registers.{held_registers}
-use Rattle.pli_coding.specs.Statements.{block_held, block_takes, stmt_held, stmts_held}
+use Rattle.pli_coding.specs.Statements.{block_held, stmt_held, stmts_held}
 use Rattle.number_runs.specs.Counting.{is_condition, is_count}
 use Rattle.number_runs.specs.Numbers.{Scope, inside, is_reference, is_test, without_located}
 use Rattle.number_runs.specs.Statements.{are_statements, begin_needs, begins_need, is_line, is_narrowed, is_statement}
-use Rattle.number_runs.specs.Statements.{is_stored, statements_need}
+use Rattle.number_runs.specs.Statements.{is_stored}
 use Rattle.number_runs.proofs.Takes.{statements_taken}
 
 mutual
@@ -46,12 +46,12 @@ mutual
       let b = and_parts s.counts (counts' && inner) a.1 in
       begins_saved program u valued (labels_in body ++ labels) body (and_parts counts' inner b.1).1 few
   begin_saved program s valued labels (Y.Begin (Y.BlockOf head body)) h few =
-      let inner = are_statements (inside s head body) false (labels_in body ++ []) body in
+      let inner = are_statements (inside s head body) valued (labels_in body ++ []) body in
       let a = and_parts (is_line head.line) (s.is_begin head body && inner) h in
       let b = and_parts (s.is_begin head body) inner a.1 in
-      let m = (statements_taken 0 (inside s head body) false (labels_in body ++ []) body b.1
+      let m = (statements_taken 0 (inside s head body) valued (labels_in body ++ []) body b.1
       (omega (arith, few))).registers in
-      let n = begins_saved program (inside s head body) false (labels_in body ++ []) body b.1 (omega (arith, few)) in
+      let n = begins_saved program (inside s head body) valued (labels_in body ++ []) body b.1 (omega (arith, few)) in
       omega (arith, m, n)
   begin_saved program s valued labels (Y.Null line) h few = omega arith
   begin_saved program s valued labels (Y.Assign target source line) h few = omega arith
@@ -135,7 +135,7 @@ mutual
       let b = and_parts s.counts (counts' && inner) a.1 in
       begins_unneeded u valued (labels_in body ++ labels) body none (and_parts counts' inner b.1).1
   begin_unneeded s valued labels (Y.Begin (Y.BlockOf head body)) none h =
-      let inner = are_statements (inside s head body) false (labels_in body ++ []) body in
+      let inner = are_statements (inside s head body) valued (labels_in body ++ []) body in
       let a = and_parts (is_line head.line) (s.is_begin head body && inner) h in
       let b = and_parts (s.is_begin head body) inner a.1 in
       absurd (cc (sym (none head body) ∙ b.0))

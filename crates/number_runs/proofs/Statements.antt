@@ -21,7 +21,7 @@ use Rattle.program_places.specs.Placed.{Placed}
 use Rattle.program_places.proofs.Labels.{marked_with}
 use Rattle.program_places.proofs.Marks.{placed_back, placed_front}
 use Rattle.program_runs.specs.Statements.{AreMarked, AreMarkedWith, Block, Does, DoesWith, EachDoes, EachDoesWith}
-use Rattle.program_runs.specs.Statements.{set_aside}
+use Rattle.program_runs.specs.Statements.{IsOwn, set_aside}
 use Rattle.program_runs.proofs.Statements.{null_does, return_does, stop_does}
 use Rattle.expression_runs.specs.Assignments.{setting_around}
 use Rattle.group_runs.specs.Groups.{list_index}
@@ -41,7 +41,8 @@ use Rattle.once_runs.proofs.Onces.{plain_once, tested_once}
 use Rattle.number_runs.specs.Counting.{condition_needs, condition_sets, count_needs, count_sets, is_condition, is_count}
 use Rattle.number_runs.specs.Counting.{limit_needs, limit_sets, start_needs}
 use Rattle.number_runs.specs.Counting.{start_sets}
-use Rattle.number_runs.specs.Knowledge.{AreAround, AreStanding, AreStandingWith, HasFrame, IsReady}
+use Rattle.number_runs.specs.Knowledge.{AreAround, AreStanding, AreStandingWith, GoesThrough, HasFrame, IsReady}
+use Rattle.begin_runs.proofs.ThroughReturns.{through_does}
 use Rattle.number_runs.specs.Knowledge.{Includes, MayBeSet, Standing}
 use Rattle.number_runs.specs.Knowledge.{StandingWith}
 use Rattle.number_runs.specs.Numbers.{Scope, are_arguments, gives_lists, is_fixed}
@@ -429,6 +430,16 @@ once_does h labels x (Some b) index placed line is fits sets does each at =
     (lists_at h labels x.line placed.includes (test_sets b) (test_sets b) (omega arith) (sets (test_sets b) (omega arith))))
     (each i (placed_in h.words h.block h.own x.body i labels stands placed) stands)
 
+-- ---- RETURN
+
+ended_does :
+    (h : Home) (labels : List Label) (line index : ℕ) → is_line line ≡ true →
+    IsOwn h.block h.left' ⊎ GoesThrough h.block h.left' → Coded h labels (Y.Return line) index
+ended_does h labels line index is (inl own) l =
+    return_does h.block line index h.left' (act_of h line is) own l labels
+ended_does h labels line index is (inr t) l =
+    through_does h.block labels t.through line index h.left' (act_of h line is) t.is l
+
 -- ---- all forms
 
 mutual
@@ -512,7 +523,8 @@ mutual
       (statements_do h (labels_in body ++ labels) body i
       (placed_in h.words h.block h.own body i labels in' placed) b.1 (omega (arith, fits)) held
       (fewer h (statements_set body) (max (test_sets condition) (statements_set body)) (omega arith) sets) in')
-  statement_does h labels (Y.CallProcedure (Y.Calling number level Y.NoArgument) line) index placed is fits held sets at =
+  statement_does h labels (Y.CallProcedure (Y.Calling number level Y.NoArgument) line) index placed is fits held sets
+      at =
       let a = and_parts (is_line line) (h.scope.is_procedure level number) is in
       calls_does h labels number level line index placed.includes a.0 a.1 at.linked
   statement_does h labels (Y.CallProcedure (Y.Calling number level (Y.ArgumentThen first rest)) line) index placed is
@@ -524,11 +536,9 @@ mutual
       let c = and_parts taken given b.1 in
       passed_does h labels number level first rest line index placed.includes a.0 b.0 c.0 c.1 fits sets at.linked
   statement_does h labels (Y.Return line) index placed is fits held sets at =
-      let a = and_parts (is_line line) (h.scope.own && (h.scope.returns && not h.valued)) is in
-      let b = and_parts h.scope.own (h.scope.returns && not h.valued) a.1 in
-      let c = and_parts h.scope.returns (not h.valued) b.1 in
-      return_does h.block line index h.left' (act_of h line a.0)
-      ((h.ready.home b.0).returns c.0 (not_true h.valued c.1)) at.linked labels
+      let a = and_parts (is_line line) (h.scope.own && not h.valued) is in
+      let b = and_parts h.scope.own (not h.valued) a.1 in
+      ended_does h labels line index a.0 ((h.ready.home b.0).returns (not_true h.valued b.1)) at.linked
   statement_does h labels (Y.ReturnValue type source line) index placed is fits held sets at =
       let rest = is_fixed type && is_stored h.scope source in
       let a = and_parts (is_line line) (h.scope.own && (h.scope.returns && (h.valued && rest))) is in
@@ -588,10 +598,11 @@ mutual
       let three = fewer g 3 need (omega arith) all in
       counted_does g labels x body line index placed a.0 b.0 refl (omega (arith, fits)) all three
       (λ y i placed' sets' at'.
-      statements_do (in_turn g b.0 refl three y) (labels_in body ++ labels) body i placed' c.1 (omega (arith, fits)) held
+      statements_do (in_turn g b.0 refl three y) (labels_in body ++ labels) body i placed' c.1 (omega (arith, fits))
+      held
       sets' at') at
   statement_does h labels (Y.Begin (Y.BlockOf head body)) index placed is fits held sets at =
-      let inner = are_statements (inside h.scope head body) false (labels_in body ++ []) body in
+      let inner = are_statements (inside h.scope head body) h.valued (labels_in body ++ []) body in
       let a = and_parts (is_line head.line) (h.scope.is_begin head body && inner) is in
       let b = and_parts (h.scope.is_begin head body) inner a.1 in
       h.ready.begins labels head body index placed.includes b.0 b.1 (ltb-true head.line (2 ^ 31) a.0)
@@ -636,7 +647,8 @@ mutual
   pub statements_do :
       (h : Home) (labels : List Label) (body : Y.Stmts) (index : ℕ) → PlacedIn h labels →
       are_statements h.scope h.valued labels body ≡ true → statements_need body ≤ h.block.registers →
-      begins_need body ≤ h.block.registers → HasFrame h.ready h.words (statements_set body) → AreStandingWith h.words h.block body index →
+      begins_need body ≤ h.block.registers → HasFrame h.ready h.words (statements_set body) →
+      AreStandingWith h.words h.block body index →
       EachDoesWith h.words h.block labels body index h.left'
   statements_do h labels (Y.EndOfList own) index placed is fits held sets at = tt
   statements_do h labels (Y.StmtThen own first rest) index placed is fits held sets at =

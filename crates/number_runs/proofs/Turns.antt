@@ -1,6 +1,6 @@
 -- A block while limits wait in words of its frame: it is as ready as it was, and the statements of a turn stand there.
 use Rattle.std.proofs.Common.{◌≡◌, ℕ, ◌+◌, ◌<◌, ◌≤◌, List, [], ◌∷◌, ◌++◌, Bool, true, None, Option, Some, refl}
-use Rattle.std.proofs.Common.{sym, ap, ◌∙◌, subst, arith, false}
+use Rattle.std.proofs.Common.{sym, ap, ◌∙◌, ◌⊎◌, inl, inr, subst, arith, false}
 use Rattle.std.specs.Prelude.{cond}
 use Rattle.pli_typing.specs.TypedTree as Y
 use Rattle.pli_meaning.specs.Control.{Label}
@@ -15,7 +15,7 @@ use Rattle.activation_relation.specs.FrameLaws.{with_waits}
 use Rattle.activation_relation.specs.Layers.{Layer}
 use Rattle.program_places.specs.Placed.{Placed}
 use Rattle.program_places.proofs.Marks.{placed_back, placed_front}
-use Rattle.program_runs.specs.Statements.{Block, IsBegun, set_aside}
+use Rattle.program_runs.specs.Statements.{Block, IsBegun, IsOwn, set_aside}
 use Rattle.expression_runs.specs.Values.{in_registers}
 use Rattle.counter_runs.specs.Counts.{Counting, IsStep, body_index, count_of, turn_in}
 use Rattle.counter_runs.specs.Words.{telling, with_word}
@@ -25,6 +25,7 @@ use Rattle.counter_runs.proofs.Turns.{coded, starts_code, while_long}
 use Rattle.counter_runs.proofs.Words.{begun_telling}
 use Rattle.number_runs.specs.Knowledge.{AreStandingWith, HasFrame, IsHome, IsReady, IsFree, KnowsGivenCalls}
 use Rattle.number_runs.specs.Knowledge.{StandingWith, KnowsAroundTexts, KnowsCalls, KnowsRaises, KnowsPuts, KnowsReads}
+use Rattle.number_runs.specs.Knowledge.{GoesThrough}
 use Rattle.number_runs.specs.Numbers.{Scope, bounds_known, type_known, without_located}
 use Rattle.number_runs.proofs.Narrow.{narrow_told}
 use Rattle.parameter_runs.proofs.Passing.{around_told}
@@ -48,6 +49,45 @@ free_above waits b n given m free low less i more =
 
 -- ---- the block
 
+-- a RETURN goes on where it did
+returns_told :
+    {k : Block} {left' : ℕ} (φ : Layer) (φs : List Layer) (waits : ℕ → Option ℕ) → IsBegun (telling waits φ φs k) →
+    IsOwn k left' ⊎ GoesThrough k left' →
+    IsOwn (telling waits φ φs k) left' ⊎ GoesThrough (telling waits φ φs k) left'
+returns_told φ φs waits b (inl o) =
+    inl (record {
+      owner = o.owner;
+      end = o.end;
+      near = o.near;
+      enough = o.enough;
+      function = o.function;
+      begun = b;
+      kind = o.kind;
+      registers = o.registers;
+    })
+returns_told φ φs waits b (inr t) =
+    let o = t.is in
+    inr (record {
+      through = t.through;
+      is = record {
+        begun = b;
+        there = o.there;
+        begins = o.begins;
+        procedure = o.procedure;
+        function = o.function;
+        own = o.own;
+        inner = o.inner;
+        few = o.few;
+        found = o.found;
+        registers = o.registers;
+        numbers = o.numbers;
+        owner = o.owner;
+        end = o.end;
+        near = o.near;
+        enough = o.enough;
+      };
+    })
+
 home_told :
     {s : Scope} {valued : Bool} {k : Block} {left' : ℕ} (φ : Layer) (φs : List Layer) (waits : ℕ → Option ℕ) →
     IsBegun (telling waits φ φs k) → IsHome s valued k left' → IsHome s valued (telling waits φ φs k) left'
@@ -56,16 +96,7 @@ home_told φ φs waits b h =
       level = h.level;
       own = h.own;
       block = h.block;
-      returns = λ may e. let o = h.returns may e in record {
-        owner = o.owner;
-        end = o.end;
-        near = o.near;
-        enough = o.enough;
-        function = o.function;
-        begun = b;
-        kind = o.kind;
-        registers = o.registers;
-      };
+      returns = λ e. returns_told φ φs waits b (h.returns e);
       values = λ may e. let v = h.values may e in record {
         owner = v.owner;
         end = v.end;

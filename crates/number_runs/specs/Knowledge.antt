@@ -1,5 +1,6 @@
 -- What is known around the expressions and the statements of such a block.
-use Rattle.std.specs.Prelude.{ℕ, ◌+◌, ◌*◌, ◌^◌, ◌<◌, ◌≤◌, ◌≡◌, [], ◌∷◌, ◌++◌, Bool, false, true, List, length, Option, None}
+use Rattle.std.specs.Prelude.{ℕ, ◌+◌, ◌*◌, ◌^◌, ◌<◌, ◌≤◌, ◌≡◌, [], ◌∷◌, ◌++◌, Bool, false, true, List}
+use Rattle.std.specs.Prelude.{◌⊎◌, length, Option, None}
 use Rattle.std.specs.Prelude.{Some, ℤ}
 use Rattle.pli_language.specs.declared.condition.Condition.{Condition}
 use Rattle.pli_language.specs.declared.condition.Condition.TheVariants as C
@@ -26,6 +27,7 @@ use Rattle.run_steps.specs.DataNamed.{IsPlaced}
 use Rattle.run_steps.specs.Engine.{most_code}
 use Rattle.run_steps.specs.Items.{Linked}
 use Rattle.program_runs.specs.Statements.{Block, Does, DoesWith, IsBegun, IsOwn, set_aside, waiting}
+use Rattle.begin_runs.specs.ThroughReturns.{IsThrough, Through}
 use Rattle.condition_codes.specs.Codes.{HasCode}
 use Rattle.expression_runs.specs.Assignments.{setting_around}
 use Rattle.expression_runs.specs.Laws as L
@@ -428,26 +430,31 @@ KnowsSignals s k own left' =
 
 -- a begin block among the statements does what it means, if its statements are of the class, and they and those of the
 -- begin blocks in it need no more registers than the block has
-abbrev pub KnowsBegins : Scope → Block → (own : List Label) → (left' : ℕ) → Type 0
-KnowsBegins s k own left' =
+abbrev pub KnowsBegins : Scope → (valued : Bool) → Block → (own : List Label) → (left' : ℕ) → Type 0
+KnowsBegins s valued k own left' =
     (labels : List Label) (head : Y.BlockHead) (body : Y.Stmts) (index : ℕ) → Includes own labels →
-    s.is_begin head body ≡ true → are_statements (inside s head body) false (labels_in body ++ []) body ≡ true →
+    s.is_begin head body ≡ true → are_statements (inside s head body) valued (labels_in body ++ []) body ≡ true →
     head.line < 2 ^ 31 → statements_need body ≤ k.registers → begins_need body ≤ k.registers →
     Standing k (Y.Begin (Y.BlockOf head body)) index →
     Does k labels (Y.Begin (Y.BlockOf head body)) index left'
 
--- in it a jump comes to a label, and a RETURN, where it may have one, to the end: it is a procedure's or a function's
--- own block then
+-- a RETURN goes to the end of a procedure around it, whose begin blocks end
+pub record GoesThrough (k : Block) (left' : ℕ) : Type 0 where
+  pub through : Through
+  pub is : IsThrough k through left'
+
+-- in it a jump comes to a label, and a RETURN to the end: it is a procedure's or a function's own block, or a begin
+-- block
 pub record IsHome (s : Scope) (valued : Bool) (k : Block) (left' : ℕ) : Type 0 where
   pub level : k.environment.level ≡ s.level
   pub own : k.environment.level ≡ k.call.beginning.layer.level
   pub block : block_around k.environment k.environment.level ≡ k.environment.block
-  pub returns : s.returns ≡ true → valued ≡ false → IsOwn k left'
+  pub returns : valued ≡ false → IsOwn k left' ⊎ GoesThrough k left'
   pub values : s.returns ≡ true → valued ≡ true → IsValued k left'
 
 -- where loops count: the newest layer, in whose words nothing waits behind so many, and what is known whatever waits
 -- there
-pub record KnowsLoops (s : Scope) (k : Block) (own : List Label) (most left' : ℕ) : Type 0 where
+pub record KnowsLoops (s : Scope) (valued : Bool) (k : Block) (own : List Label) (most left' : ℕ) : Type 0 where
   pub layer : Layer
   pub others : List Layer
   pub newest : k.first.control.layers ≡ layer ∷ others
@@ -466,7 +473,7 @@ pub record KnowsLoops (s : Scope) (k : Block) (own : List Label) (most left' : �
   -- there nothing that is BASED is written
   pub puts :
       (waits : ℕ → Option ℕ) → s.puts ≡ true → KnowsPuts (without_located s) (telling waits layer others k) most
-  pub begins : (waits : ℕ → Option ℕ) → KnowsBegins s (telling waits layer others k) own left'
+  pub begins : (waits : ℕ → Option ℕ) → KnowsBegins s valued (telling waits layer others k) own left'
   pub reads : (waits : ℕ → Option ℕ) → s.reads ≡ true → KnowsReads s (telling waits layer others k) most
 
 -- a block whose own list has these labels
@@ -485,12 +492,12 @@ pub record IsReady (s : Scope) (valued : Bool) (k : Block) (labels : List Label)
   pub calls : KnowsCalls s k labels most left'
   pub based : s.locates ≡ true → KnowsBased s k labels most left'
   pub jumps : KnowsJumps s k labels left'
-  pub begins : KnowsBegins s k labels left'
+  pub begins : KnowsBegins s valued k labels left'
   pub texts : s.texts ≡ true → KnowsAroundTexts s k labels most
   pub signals : KnowsSignals s k labels left'
   pub puts : s.puts ≡ true → KnowsPuts s k most
   pub reads : s.reads ≡ true → KnowsReads s k most
-  pub loops : s.counts ≡ true → KnowsLoops s k labels most left'
+  pub loops : s.counts ≡ true → KnowsLoops s valued k labels most left'
   -- an act pays for a statement and for what a call in it needs
   pub room : most ≤ length k.call.code + 2
   pub home : s.own ≡ true → IsHome s valued k left'

@@ -90,7 +90,7 @@ pub record Scope : Type 0 where
   pub signals : Condition → Bool
   -- whether they may have ONCODE
   pub codes : Bool
-  -- whether statements of its own may return, which begin blocks may stand among them, and what those may name
+  -- whether statements may return a number, which begin blocks may stand among them, and what those may name
   pub returns : Bool
   pub is_begin : Y.BlockHead → Y.Stmts → Bool
   pub inner : Y.BlockHead → Y.Stmts → Names

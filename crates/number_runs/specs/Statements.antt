@@ -127,7 +127,7 @@ abbrev mutual
       && (gives_lists s
       && (s.is_given_procedure (suc (argument_count rest)) level number
       && are_arguments s (Y.ArgumentThen first rest)))
-  is_statement s valued labels (Y.Return line) = is_line line && (s.own && (s.returns && not valued))
+  is_statement s valued labels (Y.Return line) = is_line line && (s.own && not valued)
   is_statement s valued labels (Y.ReturnValue type source line) =
       is_line line && (s.own && (s.returns && (valued && (is_fixed type && is_stored s source))))
   is_statement s valued labels (Y.Goto level label line) =
@@ -143,7 +143,7 @@ abbrev mutual
   is_statement s valued labels (Y.EmptyArea target line) = is_line line && (s.locates && is_area_variable s target)
   is_statement s valued labels (Y.Begin (Y.BlockOf head body)) =
       is_line head.line
-      && (s.is_begin head body && are_statements (inside s head body) false (labels_in body ++ []) body)
+      && (s.is_begin head body && are_statements (inside s head body) valued (labels_in body ++ []) body)
   is_statement s valued labels _ = false
 
   pub are_statements : Scope → (valued : Bool) → List Label → Y.Stmts → Bool

@@ -1,6 +1,6 @@
 -- A procedure or a function that is called in a block: its variables are made, and what is known there is known of it.
 use Rattle.std.proofs.Common.{◌≡◌, ℕ, suc, ◌+◌, ◌^◌, ◌<◌, List, [], ◌∷◌, length, Bool, None, Some, true, false, refl}
-use Rattle.std.proofs.Common.{sym, ap, ◌∙◌, subst}
+use Rattle.std.proofs.Common.{inl, sym, ap, ◌∙◌, subst}
 use Rattle.std.proofs.Common.{arith}
 use Rattle.std.specs.Prelude.{◌&&◌, cond, nat_lt, ◌==◌}
 use Rattle.std.proofs.lemmas.Bool.{ltb-true}
@@ -175,7 +175,7 @@ called_home once false {program} m h more i k call p numbers os b =
       level = refl;
       own = refl;
       block = own_block program i.head i.body None i.is;
-      returns = λ may e. record {
+      returns = λ e. inl (record {
         owner = refl;
         end = end.place;
         near = end.near;
@@ -184,7 +184,7 @@ called_home once false {program} m h more i k call p numbers os b =
         begun = b;
         kind = refl;
         registers = omega arith;
-      };
+      });
       values = λ may e. absurd (cc e);
     }
 called_home once true {program} m h more i k call p numbers os b =
@@ -194,7 +194,7 @@ called_home once true {program} m h more i k call p numbers os b =
       level = refl;
       own = refl;
       block = own_block program i.head i.body (Some (Y.FixedLeaf 31)) i.is;
-      returns = λ may e. absurd (cc e);
+      returns = λ e. absurd (cc e);
       values = λ may e. record {
         owner = refl;
         end = end.place;
