@@ -43,3 +43,4 @@ pub mod HaltRows
 pub mod TollRows
 pub mod PleadRows
 pub mod LodgeRows
+pub mod RetreatRows

@@ -19,3 +19,4 @@ pub mod HaltRows
 pub mod TollRows
 pub mod PleadRows
 pub mod LodgeRows
+pub mod RetreatRows
