@@ -35,11 +35,17 @@ use Rattle.expression_runs.specs.Assignments.{setting_of}
 use Rattle.number_runs.specs.Numbers.{is_test}
 use Rattle.number_headlines.specs.Programs.{most_waiting}
 use Rattle.error_units.specs.Errors.{ErrorGoes, ErrorRoutines}
-use Rattle.error_units.proofs.Conditions.{end_by}
-use Rattle.jump_runs.specs.Functions.{EndDoes, FunctionDoes, IsFunctionList, behind_list}
+use Rattle.error_units.proofs.Conditions.{end_goes}
+use Rattle.jump_runs.specs.Functions.{FunctionDoes, IsFunctionList, behind_list}
 use Rattle.unit_runs.specs.InnerLists.{ListDoes}
 use Rattle.program_runs.specs.Statements.{EachDoes}
+use Rattle.called_units.specs.Functions.{EndGoes, turn_aims}
+use Rattle.called_units.proofs.Functions.{functions_turn}
 use Rattle.called_units.proofs.Lists.{lists_end}
+use Rattle.block_runs.proofs.CallStatements.{comes_map}
+use Rattle.pli_meaning.specs.Codes.{no_value_code}
+use Rattle.pli_meaning.specs.Raising.{error}
+use Rattle.text_runs.specs.Texts.{error_aims}
 use Rattle.phase_runs.specs.Phases.{EachThrough, in_phase}
 use Rattle.phase_runs.specs.Units.{AreBy, Past, phases_of}
 use Rattle.unit_numbers.specs.Calls.{scope_in}
@@ -207,17 +213,18 @@ visited_known once {program} m more each h ih blocks c o os e unit v writes past
     (own_carries v))
     told
 
--- ERROR there, at the end of a function
+-- ERROR there
 visited_error :
     MarkedOnce → {program : Y.Program} (m : Main program) (more : ℕ) → EachBody m more → (h : Home) → IsHome' m h →
     (blocks : ℕ) (c : Part) (o : Outer) (os : List Outer) (e : IsEntered m h (suc more) blocks c o os) →
-    (unit : c.unit ≡ false) (valued : c.valued ≡ true) → IsVisited m h c o os → (past : Past) →
-    AreBy (ons_in c o) past → (line : ℕ) (r : ErrorRoutines (links_for program) (linked_code (code_for program))) →
-    ErrorGoes (Unit {0}) (setting_of (block_of m h (past_outer past o) os) [] line (most_for program)) r
-visited_error once {program} m more each h ih blocks c o os e unit valued v past known line r =
-    let o' = past_outer past o in
-    error_at (Unit {0}) once m h ih more blocks (writing false c) o' os (past_at e unit v false past known).at each []
-    (λ own jumps. absurd (cc (sym (v.quiet valued) ∙ jumps))) 0 [] (λ label among. among) line r
+    (unit : c.unit ≡ false) → IsVisited m h c o os → (past : Past) → AreBy (ons_in c o) past → (line : ℕ)
+    (r : ErrorRoutines (links_for program) (linked_code (code_for program))) →
+    ErrorGoes (Unit {0})
+    (setting_of (block_of m h (past_outer past o) os) (labels_in c.body ++ []) line (most_for program)) r
+visited_error once {program} m more each h ih blocks c o os e unit v past known line r =
+    let own = labels_in c.body ++ [] in
+    error_at (Unit {0}) once m h ih more blocks (writing false c) (past_outer past o) os
+    (past_at e unit v false past known).at each own (own_carries v) 0 own (λ label among. among) line r
 
 visited_listing :
     MarkedOnce → {program : Y.Program} (m : Main program) (more : ℕ) → EachBody m more → (h : Home) → IsHome' m h →
@@ -315,25 +322,44 @@ visited_list once m more each h ih blocks c o os e unit v =
     (inside_of l c.body c.index e.part.placed)
     (visited_each once m more each h ih blocks c o os e unit v) e.part.placed.linked
 
+-- where a unit jumps out of ERROR behind a function's list, that goes on
+visited_end :
+    MarkedOnce → {program : Y.Program} (m : Main program) (more : ℕ) → EachBody m more → (h : Home) → IsHome' m h →
+    (blocks : ℕ) (c : Part) (o : Outer) (os : List Outer) → IsEntered m h (suc more) blocks c o os →
+    (unit : c.unit ≡ false) → IsVisited m h c o os → IsFunctionList (block_of m h o os) c.body c.index →
+    (past : Past) → AreBy (ons_in c o) past →
+    EndGoes (phase_at (block_of m h o os) past) (labels_in c.body ++ []) (behind_list (block_of m h o os) c.body c.index)
+visited_end once {program} m more each h ih blocks c o os e unit v list' past known p numbers f among at =
+    let k = phase_at (block_of m h o os) past in
+    let own = labels_in c.body ++ [] in
+    let line = o.around.line in
+    let acts = p.state.world.acts in
+    let routines = error_routines once program m.loadable in
+    let here = list'.linked.inside in
+    let n0 = size_append (stmts_code o.environment none_taken c.body) (no_value line) in
+    comes_map (error_aims (Unit {0}) (setting_of k own line (most_for program)) acts) (turn_aims k own acts left_over)
+    refl (error {R = Unit {0}} o.around no_value_code h.acts p.state)
+    (λ c' f' v' r s q. absurd q)
+    (λ c' f' v' height label s q. q)
+    (λ c' f' v' r s q. absurd q)
+    (end_goes k own c.body c.index (most_for program)
+    (past_list (block_of m h o os) (ons_in c o) past (visited_placed v) known c.body c.index list') routines
+    (visited_error once m more each h ih blocks c o os e unit v past known line routines) (omega (arith, here, n0)) p
+    numbers f among at)
+
 visited_function :
     MarkedOnce → {program : Y.Program} (m : Main program) (more : ℕ) → EachBody m more → (h : Home) → IsHome' m h →
     (blocks : ℕ) (c : Part) (o : Outer) (os : List Outer) → IsEntered m h (suc more) blocks c o os →
-    (unit : c.unit ≡ false) → c.valued ≡ true → IsVisited m h c o os →
-    IsFunctionList (block_of m h o os) c.body c.index → FunctionDoes (block_of m h o os) c.body c.index
-visited_function once {program} m more each h ih blocks c o os e unit valued v list' =
+    (unit : c.unit ≡ false) → IsVisited m h c o os → IsFunctionList (block_of m h o os) c.body c.index →
+    FunctionDoes (block_of m h o os) c.body c.index
+visited_function once m more each h ih blocks c o os e unit v list' =
     let k = block_of m h o os in
     let l = visited_listing once m more each h ih blocks c o os e unit v in
-    let routines = error_routines once program m.loadable in
-    let here = list'.linked.inside in
-    let n0 = size_append (stmts_code o.environment none_taken c.body) (no_value o.around.line) in
-    lists_end.function k (ons_in c o) c.body c.index list' (inside_of l c.body c.index e.part.placed)
+    functions_turn k (ons_in c o) c.body c.index list' (inside_of l c.body c.index e.part.placed)
     (visited_each once m more each h ih blocks c o os e unit v)
     (λ first phase.
-    subst (λ q. EndDoes (in_phase k q) (behind_list k c.body c.index)) (sym phase.2)
-    (end_by (phase_at k phase.0) c.body c.index (most_for program)
-    (past_list k (ons_in c o) phase.0 (visited_placed v) phase.1 c.body c.index list') routines
-    (visited_error once m more each h ih blocks c o os e unit valued v phase.0 phase.1 o.around.line routines)
-    (omega (arith, here, n0))))
+    subst (λ q. EndGoes (in_phase k q) (labels_in c.body ++ []) (behind_list k c.body c.index)) (sym phase.2)
+    (visited_end once m more each h ih blocks c o os e unit v list' phase.0 phase.1))
 
 pub each_body : MarkedOnce → {program : Y.Program} (m : Main program) (more : ℕ) → EachBody m more
 each_body once m zero h blocks c o os ih e =
@@ -345,6 +371,6 @@ each_body once {program} m (suc more) h blocks c o os ih e =
     record {
       each = λ unit. unit_each once m more each h ih blocks c o os e unit;
       list = λ unit. visited_list once m more each h ih blocks c o os e unit (e.visited unit);
-      function = λ unit valued list'.
-          visited_function once m more each h ih blocks c o os e unit valued (e.visited unit) list';
+      function = λ unit list'.
+          visited_function once m more each h ih blocks c o os e unit (e.visited unit) list';
     }

@@ -200,7 +200,7 @@ value_by once {program} m h ih more b part out os a each own carries words set l
     let goes = each h b (called_part i) (as_outer (bare_block m h true more r) []) os' ih
     (called_entered once m moment i call labels (carries_more part own labels carries includes) pass shallow
     list'.begun) in
-    goes.function refl refl list'))
+    goes.function refl list'))
     (λ e.
     full_function_ends z c level more is shallow
     (λ call p numbers o. are_full m (record { at = a; among = o }) i call ih.few (past used e))))

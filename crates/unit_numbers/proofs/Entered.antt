@@ -336,6 +336,5 @@ called_entered once {program} m {h} {more} {b} {part} {out} {os} {p} {numbers} o
               label_of (links_for program) (linked_code (code_for program)) (body_for program i.head i.body) e none_taken
               i.body (body_placed once program i.head i.body (result_of v) m.loadable i.is) label among;
         };
-        quiet = i.fit.quiet;
       };
     }

@@ -26,7 +26,6 @@ use Rattle.number_headlines.proofs.Tables.{block_plain}
 use Rattle.unit_runs.specs.Establishing.{OnUnit}
 use Rattle.phase_runs.specs.Units.{IsListed}
 use Rattle.unit_numbers.specs.Called.{are_called, is_called_if, is_list_of}
-use Rattle.unit_numbers.specs.Calls.{has_jumps}
 use Rattle.unit_numbers.specs.Steps.{are_steps}
 use Rattle.unit_numbers.proofs.Established.{IsOnOf, called_listed, entry_low, ons_are}
 use Rattle.unit_numbers.proofs.Mains.{Main, called_placed, main_scope, ons_of, placed_if}
@@ -37,14 +36,8 @@ use Rattle.unit_numbers.proofs.Takes.{behind_variables, steps_taken}
 pub record ListFit (program : Y.Program) (ns : List ℕ) (head : Y.BlockHead) (valued : Bool) (body : Y.Stmts) : Type 0
   where
     pub steps : are_steps program ns head body valued (labels_in body ++ []) body ≡ true
-    pub quiet : valued ≡ true → has_jumps body ≡ false
     pub fits : statements_need body ≤ held_registers
     pub waiting : statements_set body ≤ most_waiting
-
-quiet_is : (valued jumps : Bool) → not (valued && jumps) ≡ true → valued ≡ true → jumps ≡ false
-quiet_is true false h e = refl
-quiet_is true true h e = absurd (cc h)
-quiet_is false jumps h e = absurd (cc e)
 
 list_fit :
     (program : Y.Program) (ns : List ℕ) (head : Y.BlockHead) (valued : Bool) (body : Y.Stmts) →
@@ -52,14 +45,10 @@ list_fit :
 list_fit program ns head valued body h =
     let fits = nat_le (statements_need body) held_registers in
     let waiting = nat_le (statements_set body) most_waiting in
-    let quiet = not (valued && has_jumps body) in
-    let a = and_parts (are_steps program ns head body valued (labels_in body ++ []) body) (quiet && (fits && waiting))
-    h in
-    let q = and_parts quiet (fits && waiting) a.1 in
-    let b = and_parts fits waiting q.1 in
+    let a = and_parts (are_steps program ns head body valued (labels_in body ++ []) body) (fits && waiting) h in
+    let b = and_parts fits waiting a.1 in
     record {
       steps = a.0;
-      quiet = quiet_is valued (has_jumps body) q.0;
       fits = leb-true (statements_need body) held_registers b.0;
       waiting = leb-true (statements_set body) most_waiting b.1;
     }

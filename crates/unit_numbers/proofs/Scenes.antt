@@ -147,10 +147,9 @@ pub record IsVisited {program : Y.Program} (m : Main program) (h : Home) (c : Pa
     pub inner : 0 < c.caller.level
     pub below : (condition : Condition) → InForceBelow m (block_of m h o os) condition
     pub home : IsHome (scope_of m c) c.valued (block_of m h o os) left_over
-    -- units jump to labels of its list, but in no function
+    -- units jump to labels of its list
     pub own : c.all ≡ c.body
     pub lands : has_jumps c.all ≡ true → MayLand program (block_of m h o os) c.caller c.all
-    pub quiet : c.valued ≡ true → has_jumps c.all ≡ false
 
 -- where it was entered just now: its frame has the words that its loops set aside, and nothing waits in them
 pub record IsEntered {program : Y.Program} (m : Main program) (h : Home) (more blocks : ℕ) (c : Part) (o : Outer)
@@ -349,7 +348,7 @@ pub record BodyGoes {program : Y.Program} (m : Main program) (h : Home) (c : Par
     pub each : c.unit ≡ true → EachDoes (block_of m h o os) (labels_in c.body ++ []) c.body c.index left_over
     pub list : c.unit ≡ false → ListDoes (block_of m h o os) c.body c.index left_over
     pub function :
-        c.unit ≡ false → c.valued ≡ true → IsFunctionList (block_of m h o os) c.body c.index →
+        c.unit ≡ false → IsFunctionList (block_of m h o os) c.body c.index →
         FunctionDoes (block_of m h o os) c.body c.index
 
 abbrev pub EachBody : {program : Y.Program} → Main program → (more : ℕ) → Type 0

@@ -10,16 +10,14 @@ use Rattle.unit_runs.specs.Establishing.{OnUnit}
 use Rattle.number_runs.specs.Numbers.{has_none}
 use Rattle.number_runs.specs.Statements.{statements_need, statements_set}
 use Rattle.number_headlines.specs.Programs.{body_of, is_valued, most_waiting, numbers_of}
-use Rattle.unit_numbers.specs.Calls.{all_units_in, has_jumps}
+use Rattle.unit_numbers.specs.Calls.{all_units_in}
 use Rattle.unit_numbers.specs.Steps.{are_steps}
 
--- its list may establish units, which jump to its labels but in a function; its temporaries fit registers, and its loops
--- the words of its frame
+-- its list may establish units; its temporaries fit registers, and its loops the words of its frame
 abbrev pub is_list_of : Y.Program → List ℕ → (head : Y.BlockHead) → (valued : Bool) → Y.Stmts → Bool
 is_list_of program ns head valued body =
     are_steps program ns head body valued (labels_in body ++ []) body
-    && (not (valued && has_jumps body)
-    && (nat_le (statements_need body) held_registers && nat_le (statements_set body) most_waiting))
+    && (nat_le (statements_need body) held_registers && nat_le (statements_set body) most_waiting)
 
 -- the main procedure is called by none
 abbrev pub is_called : Y.Program → List ℕ → Y.Procedure → Bool
