@@ -20,3 +20,4 @@ pub mod TollRows
 pub mod PleadRows
 pub mod LodgeRows
 pub mod RetreatRows
+pub mod ResortRows

@@ -11,6 +11,7 @@ ghost use Rattle.unit_numbers.specs.LodgeRows.{LodgeKept};
 ghost use Rattle.unit_numbers.specs.MendRows.{MendKept};
 ghost use Rattle.unit_numbers.specs.PleadRows.{PleadKept};
 ghost use Rattle.unit_numbers.specs.RescueRows.{RescueKept};
+ghost use Rattle.unit_numbers.specs.ResortRows.{ResortKept};
 ghost use Rattle.unit_numbers.specs.RetreatRows.{RetreatKept};
 ghost use Rattle.unit_numbers.specs.Rows.{HealKept};
 ghost use Rattle.unit_numbers.specs.ShiftRows.{ShiftKept};
@@ -139,6 +140,13 @@ pub fn lodge_kept()
 /// A worked row: a procedure's own unit, which leaves two blocks by a jump to a label of the procedure.
 pub fn retreat_kept()
     ensures { RetreatKept }
+{
+    unit_number_headlines_kept();
+}
+
+/// A worked row: a function whose unit for ERROR goes back to a label of it from behind its list.
+pub fn resort_kept()
+    ensures { ResortKept }
 {
     unit_number_headlines_kept();
 }
