@@ -59,7 +59,7 @@ list_ends k ons body index left' z each l p numbers c wanted f o fits there =
 
 -- ---- a function's
 
-own_return :
+pub own_return :
     {k : Block} {left' c : ℕ} {f : Family} {v : Services} {r : Option BasicValue} {s : State} (body : Y.Stmts)
     (index : ℕ) → IsFunctionList k body index → ReturnsTo k left' c f v r s → AtEnd k.call left' c f v r s
 own_return {k} {left'} {c} {f} {v} {r} {s} body index z o =

@@ -84,7 +84,6 @@ use Rattle.unit_runs.proofs.UnitBlocks.{behind_closed}
 use Rattle.unit_runs.proofs.UnitRuns.{RaisesTo, overflow_by, raised_among}
 use Rattle.jump_runs.specs.Exits.{exit_aims}
 use Rattle.jump_runs.specs.Functions.{EndDoes, IsFunctionList, behind_list}
-use Rattle.jump_runs.proofs.Exits.{exit_closed}
 use Rattle.error_units.specs.Errors.{ErrorGoes, ErrorRoutines, IsErrorSignal}
 use Rattle.error_units.proofs.Errors.{error_closed}
 
@@ -493,12 +492,17 @@ lined_among {k} {numbers} {p} line o =
 abbrev asked_regs : (line : ℕ) → Base → List (ℕ × ℕ)
 asked_regs line b = (17, 1) ∷ (11, 1) ∷ (10, line) ∷ []
 
-pub end_by :
-    (k : Block) (body : Y.Stmts) (index most : ℕ) → IsFunctionList k body index →
+-- behind its list, where a unit may go back to labels
+pub end_goes :
+    (k : Block) (labels : List Label) (body : Y.Stmts) (index most : ℕ) → IsFunctionList k body index →
     (r : ErrorRoutines k.call.surroundings.links k.call.code) →
-    ErrorGoes (Unit {0}) (setting_of k [] k.around.line most) r →
-    size_of (no_value k.around.line) + most ≤ cost k.call.code → EndDoes k (behind_list k body index)
-end_by k body index most z r goes paid p numbers f o there =
+    ErrorGoes (Unit {0}) (setting_of k labels k.around.line most) r →
+    size_of (no_value k.around.line) + most ≤ cost k.call.code → (p : Point) (numbers : ℕ → ℕ) (f : Family) →
+    IsAmong k numbers p → AreIn k.call.surroundings p numbers (behind_list k body index) f →
+    Comes k.call.code 0 f (services_of p)
+    (error_aims (Unit {0}) (setting_of k labels k.around.line most) p.state.world.acts)
+    (R.error {R = Unit {0}} k.around no_value_code k.call.surroundings.acts p.state)
+end_goes k labels body index most z r goes paid p numbers f o there =
     let w = k.call.surroundings in
     let code = k.call.code in
     let line = k.around.line in
@@ -519,7 +523,7 @@ end_by k body index most z r goes paid p numbers f o there =
     let l2 = back_of asks tail l1 in
     let l3 = rest_of (Plain I.Ecall) raise' l2 in
     let n0 = size_append first (asks ++ tail) in
-    let closed = exit_closed k p.state.world.acts left_over in
+    let closed = error_closed (Unit {0}) (setting_of k labels line most) p.state.world.acts in
     let r1 = constant_piece {t = λ j. 0} {rs = nothing} 0 f a0 (pos line) (word_fits line z.line)
     (record { reserved_stay = λ y u. refl; known_stay = λ b y u e. e; set = λ y u. refl })
     (front_of first (asks ++ tail) l) (λ b. known_in h (there b) tt) in
@@ -569,11 +573,20 @@ end_by k body index most z r goes paid p numbers f o there =
     }) in
     onward closed (reach_then r1 (reach_then r2 r3))
     (λ g3 at3.
-    comes_map (error_aims (Unit {0}) (setting_of k [] line most) q.state.world.acts)
-    (exit_aims k p.state.world.acts left_over) refl (R.error {R = Unit {0}} k.around no_value_code w.acts p.state)
+    jumped_to (setting_of k labels line most) r goes no_value_code (omega arith, omega arith) q numbers
+    (0 + size_of first + 2 + 1) (i + size_of first + 2 + 1) g3 o' refl l3 (omega (arith, n0, paid))
+    (λ b. in_known h' o'.image.parts (at3 b)))
+
+pub end_by :
+    (k : Block) (body : Y.Stmts) (index most : ℕ) → IsFunctionList k body index →
+    (r : ErrorRoutines k.call.surroundings.links k.call.code) →
+    ErrorGoes (Unit {0}) (setting_of k [] k.around.line most) r →
+    size_of (no_value k.around.line) + most ≤ cost k.call.code → EndDoes k (behind_list k body index)
+end_by k body index most z r goes paid p numbers f o there =
+    comes_map (error_aims (Unit {0}) (setting_of k [] k.around.line most) p.state.world.acts)
+    (exit_aims k p.state.world.acts left_over) refl
+    (R.error {R = Unit {0}} k.around no_value_code k.call.surroundings.acts p.state)
     (λ c' f' v' x s e. absurd e)
     (λ c' f' v' height label s e. out_of_all e)
     (λ c' f' v' x s e. absurd e)
-    (jumped_to (setting_of k [] line most) r goes no_value_code (omega arith, omega arith) q numbers
-    (0 + size_of first + 2 + 1) (i + size_of first + 2 + 1) g3 o' refl l3 (omega (arith, n0, paid))
-    (λ b. in_known h' o'.image.parts (at3 b))))
+    (end_goes k [] body index most z r goes paid p numbers f o there)

@@ -66,7 +66,7 @@ none_left k ps labels acts index c wanted left' first is p numbers f since o few
 
 -- ---- statements, from the first on
 
-statements_do :
+pub statements_do :
     (words : ℕ) (k : Block) (ps : Phases) (labels : List Label) (body : Y.Stmts) (acts index left' c wanted : ℕ)
     (first' : Point) → ps first' → (p : Point) (numbers : ℕ → ℕ) (f : Family) → acts ≤ p.state.world.acts →
     EachThrough words k ps labels body index left' → IsAmong (in_phase k first') numbers p →
@@ -119,7 +119,7 @@ statements_do words k ps labels (Y.StmtThen own first rest) acts index left' c w
 
 -- ---- and from a label of the list
 
-or_else : (label : Label) (xs ys : List Label) → is_among label (xs ++ ys) ≡ true → is_among label xs ≡ false →
+pub or_else : (label : Label) (xs ys : List Label) → is_among label (xs ++ ys) ≡ true → is_among label xs ≡ false →
     is_among label ys ≡ true
 or_else label [] ys e f = e
 or_else label (x ∷ xs) ys e f = by (same_bytes label x) e f (λ a b. or_else label xs ys a b)
@@ -131,7 +131,7 @@ or_else label (x ∷ xs) ys e f = by (same_bytes label x) e f (λ a b. or_else l
     by true e f rest = absurd (cc f)
     by false e f rest = rest e f
 
-sought_do :
+pub sought_do :
     (words : ℕ) (k : Block) (ps : Phases) (labels : List Label) (label : Label) (body : Y.Stmts)
     (index left' wanted at : ℕ) (first' : Point) → ps first' → (p : Point) (numbers : ℕ → ℕ) (f : Family) →
     EachThrough words k ps labels body index left' →

@@ -4,8 +4,11 @@ use Rattle.std.proofs.Common.{◌≡◌, ◌⊎◌, inl, inr, ℕ, zero, suc, �
 use Rattle.std.proofs.Common.{Bool, Option, None, true, false, refl, sym, ◌∙◌, subst, arith}
 use Rattle.std.specs.Prelude.{◌||◌, not}
 use Rattle.std.proofs.lemmas.Bool.{or_cases}
+use Rattle.std.proofs.lemmas.Bool.{or_left}
+use Rattle.std.proofs.lemmas.List.Folds.{list_any-append}
+use Rattle.pli_language.specs.Keywords.{same_bytes}
 use Rattle.pli_typing.specs.TypedTree as Y
-use Rattle.pli_meaning.specs.Control.{Label}
+use Rattle.pli_meaning.specs.Control.{Label, is_among}
 use Rattle.pli_meaning.specs.Executing.{labels_in}
 use Rattle.pli_coding.specs.Environments.{none_taken}
 use Rattle.pli_coding.specs.Images.{linked_code}
@@ -39,17 +42,25 @@ use Rattle.expression_runs.specs.Assignments.{setting_of}
 use Rattle.number_runs.specs.Numbers.{is_test}
 use Rattle.number_headlines.specs.Programs.{most_waiting}
 use Rattle.error_units.specs.Errors.{ErrorGoes, ErrorRoutines}
-use Rattle.error_units.proofs.Conditions.{end_by}
-use Rattle.jump_runs.specs.Functions.{EndDoes, FunctionDoes, IsFunctionList, behind_list}
+use Rattle.error_units.proofs.Conditions.{end_goes}
+use Rattle.jump_runs.specs.Functions.{FunctionDoes, IsFunctionList, behind_list}
 use Rattle.unit_runs.specs.InnerLists.{ListDoes}
 use Rattle.program_runs.specs.Statements.{EachDoes}
+use Rattle.called_units.specs.Functions.{EndGoes, turn_aims}
+use Rattle.called_units.proofs.Functions.{functions_turn}
 use Rattle.called_units.proofs.Lists.{lists_end}
+use Rattle.block_runs.proofs.CallStatements.{comes_map}
+use Rattle.pli_meaning.specs.Codes.{no_value_code}
+use Rattle.pli_meaning.specs.Raising.{error}
+use Rattle.text_runs.specs.Texts.{error_aims}
 use Rattle.unit_numbers.proofs.Arrays.{phase_at}
+use Rattle.unit_numbers.proofs.Hosts.{Part}
 use Rattle.unit_numbers.proofs.Listing.{Listing, inside_of, steps_do}
+
 use Rattle.unit_numbers.proofs.Raises.{Knows, error_at, knows_of}
 use Rattle.unit_numbers.proofs.Routines.{error_routines}
-use Rattle.unit_numbers.proofs.Scenes.{EachBody, IsAbove, IsAt, IsEntered, IsInside, IsVisited, Part, at_told}
-use Rattle.unit_numbers.proofs.Scenes.{block_of, ons_in, rises_above, scope_of, told_outer}
+use Rattle.unit_numbers.proofs.Scenes.{Carries, EachBody, IsAt, IsEntered, IsVisited, at_told, block_of, ons_in}
+use Rattle.unit_numbers.proofs.Scenes.{scope_of, told_outer}
 use Rattle.unit_numbers.proofs.Visited.{IsSet, past_at, past_list, past_outer, visited_placed, writing}
 
 -- ---- a block that is ready for its statements
@@ -180,50 +191,55 @@ test_of {program} {m} {h} {c} {o} {os} {own} z labels line includes condition is
 
 -- ---- what is called, in a phase
 
+-- units jump to labels of its list
+own_carries :
+    {program : Y.Program} {m : Main program} {h : Home} {c : Part} {o : Outer} {os : List Outer} → IsVisited m h c o os →
+    Carries c (labels_in c.body ++ [])
+own_carries {c = c} v unit jumps label e =
+    list_any-append (same_bytes label) (labels_in c.body) []
+    ∙ or_left (is_among label (labels_in c.body)) false
+    (subst (λ all. is_among label (labels_in all) ≡ true) v.own e)
+
 visited_known :
     MarkedOnce → {program : Y.Program} (m : Main program) (more : ℕ) → EachBody m more → (h : Home) → IsHome' m h →
     (blocks : ℕ) (c : Part) (o : Outer) (os : List Outer) (e : IsEntered m h (suc more) blocks c o os) →
-    (unit : c.unit ≡ false) → IsVisited m h c o os → (has_jumps (list_of m) ≡ true → IsAbove m h os) →
-    (own : List Label) (writes : Bool) (past : Past) → AreBy (ons_in c o) past →
-    IsKnown' m h (writing writes c) (past_outer past o) os own
-visited_known once {program} m more each h ih blocks c o os e unit v above own writes past known =
+    (unit : c.unit ≡ false) → IsVisited m h c o os → (writes : Bool) (past : Past) → AreBy (ons_in c o) past →
+    IsKnown' m h (writing writes c) (past_outer past o) os (labels_in c.body ++ [])
+visited_known once {program} m more each h ih blocks c o os e unit v writes past known =
     let c' = writing writes c in
     let o' = past_outer past o in
+    let own = labels_in c.body ++ [] in
     let z = past_at e unit v writes past known in
-    let none : c.unit ≡ true → c.caller.level ≡ 0 → IsInside m c' o' × (has_jumps (list_of m) ≡ true → IsAbove m h os)
-    = λ other. absurd (cc (sym unit ∙ other)) in
     let told : (waits : ℕ → Option ℕ) →
     Knows program (scope_of m c') (telling waits z.at.free.layer z.at.free.below (block_of m h o' os)) own = λ waits.
     let o2 = told_outer o' waits z.at.free.layer z.at.free.below in
     knows_of once m h ih more blocks c' o2 os (at_told z.at waits)
-    (λ other. absurd (cc (sym unit ∙ other))) (λ free. above) each own
-    (rises_above m h (block_of m h o2 os) own above) in
+    (λ other jumps. absurd (cc (sym unit ∙ other))) each own (own_carries v) in
     known_of m h ih (suc more) blocks c' o' os z own e.part.waiting
-    (knows_of once m h ih more blocks c' o' os z.at none (λ free. above) each own
-    (rises_above m h (block_of m h o' os) own above))
+    (knows_of once m h ih more blocks c' o' os z.at (λ other jumps. absurd (cc (sym unit ∙ other))) each own
+    (own_carries v))
     told
 
 -- ERROR there
 visited_error :
     MarkedOnce → {program : Y.Program} (m : Main program) (more : ℕ) → EachBody m more → (h : Home) → IsHome' m h →
     (blocks : ℕ) (c : Part) (o : Outer) (os : List Outer) (e : IsEntered m h (suc more) blocks c o os) →
-    (unit : c.unit ≡ false) → IsVisited m h c o os → (has_jumps (list_of m) ≡ true → IsAbove m h os) →
-    (past : Past) → AreBy (ons_in c o) past → (line : ℕ)
+    (unit : c.unit ≡ false) → IsVisited m h c o os → (past : Past) → AreBy (ons_in c o) past → (line : ℕ)
     (r : ErrorRoutines (links_for program) (linked_code (code_for program))) →
-    ErrorGoes (Unit {0}) (setting_of (block_of m h (past_outer past o) os) [] line (most_for program)) r
-visited_error once {program} m more each h ih blocks c o os e unit v above past known line r =
-    let o' = past_outer past o in
-    error_at (Unit {0}) once m h ih more blocks (writing false c) o' os (past_at e unit v false past known).at each []
-    (rises_above m h (block_of m h o' os) [] above) 0 [] (λ label among. among) line r
+    ErrorGoes (Unit {0})
+    (setting_of (block_of m h (past_outer past o) os) (labels_in c.body ++ []) line (most_for program)) r
+visited_error once {program} m more each h ih blocks c o os e unit v past known line r =
+    let own = labels_in c.body ++ [] in
+    error_at (Unit {0}) once m h ih more blocks (writing false c) (past_outer past o) os
+    (past_at e unit v false past known).at each own (own_carries v) 0 own (λ label among. among) line r
 
 visited_listing :
     MarkedOnce → {program : Y.Program} (m : Main program) (more : ℕ) → EachBody m more → (h : Home) → IsHome' m h →
     (blocks : ℕ) (c : Part) (o : Outer) (os : List Outer) (e : IsEntered m h (suc more) blocks c o os) →
-    (unit : c.unit ≡ false) → IsVisited m h c o os → (has_jumps (list_of m) ≡ true → IsAbove m h os) →
-    Listing m c.caller c.valued (block_of m h o os) (ons_in c o) (labels_in c.body ++ []) (statements_need c.body)
+    (unit : c.unit ≡ false) → IsVisited m h c o os →
+    Listing m c.caller c.all c.valued (block_of m h o os) (ons_in c o) (labels_in c.body ++ []) (statements_need c.body)
     (statements_set c.body)
-visited_listing once {program} m more each h ih blocks c o os e unit v above =
-    let own = labels_in c.body ++ [] in
+visited_listing once {program} m more each h ih blocks c o os e unit v =
     record {
       small = ih.few;
       begun = e.at.begun;
@@ -234,17 +250,17 @@ visited_listing once {program} m more each h ih blocks c o os e unit v above =
       few = e.at.held;
       plain = λ past known labels stmt index around is fits sets at.
           let needs = e.part.needs in
-          by_writing (λ writes. is_statement (scope_in program m.called (list_of m) c.caller false writes) c.valued labels
+          by_writing (λ writes. is_statement (scope_in program m.called c.all c.caller false writes) c.valued labels
           stmt) is (λ writes is'.
-          plain_of (visited_known once m more each h ih blocks c o os e unit v above own writes past known) labels stmt
+          plain_of (visited_known once m more each h ih blocks c o os e unit v writes past known) labels stmt
           index (record { at = around.at; includes = around.includes })
-          (subst (λ u. is_statement (scope_in program m.called (list_of m) c.caller u writes) c.valued labels stmt
+          (subst (λ u. is_statement (scope_in program m.called c.all c.caller u writes) c.valued labels stmt
           ≡ true) (sym unit) is')
           (omega (arith, fits, needs)) sets at);
       tests = λ past known labels line includes condition is.
-          test_of (visited_known once m more each h ih blocks c o os e unit v above own false past known) labels line
+          test_of (visited_known once m more each h ih blocks c o os e unit v false past known) labels line
           includes condition
-          (subst (λ u. is_test (scope_in program m.called (list_of m) c.caller u false) condition ≡ true) (sym unit) is);
+          (subst (λ u. is_test (scope_in program m.called c.all c.caller u false) condition ≡ true) (sym unit) is);
     }
 
 -- ---- as deep as they go
@@ -262,24 +278,28 @@ around_own k body index at =
 -- a unit's statements
 unit_each :
     MarkedOnce → {program : Y.Program} (m : Main program) (more : ℕ) → EachBody m more → (h : Home) → IsHome' m h →
-    (blocks : ℕ) (c : Part) (o : Outer) (os : List Outer) → IsEntered m h (suc more) blocks c o os →
-    (has_jumps (list_of m) ≡ true → IsAbove m h os) → c.unit ≡ true →
+    (blocks : ℕ) (c : Part) (o : Outer) (os : List Outer) → IsEntered m h (suc more) blocks c o os → c.unit ≡ true →
     EachDoes (block_of m h o os) (labels_in c.body ++ []) c.body c.index left_over
-unit_each once {program} m more each h ih blocks c o os e above unit =
+unit_each once {program} m more each h ih blocks c o os e unit =
     let a = e.at in
     let own = labels_in c.body ++ [] in
-    let words = e.words in
-    let inner : c.unit ≡ true → c.caller.level ≡ 0 → IsInside m c o × (has_jumps (list_of m) ≡ true → IsAbove m h os) =
-    λ is outer. (e.inner is outer, above) in
-    let knows = knows_of once m h ih more blocks c o os a inner (λ free. above) each own
-    (rises_above m h (block_of m h o os) own above) in
+    let none : Carries c own = λ no jumps. absurd (cc (sym no ∙ unit)) in
+    let knows = knows_of once m h ih more blocks c o os a e.inner each own none in
     let told : (waits : ℕ → Option ℕ) →
     Knows program (scope_of m c) (telling waits a.free.layer a.free.below (block_of m h o os)) own = λ waits.
     let o' = told_outer o waits a.free.layer a.free.below in
     knows_of once m h ih more blocks c o' os (at_told a waits)
-    (λ is outer. let i = e.inner is outer in (record { caller = i.caller; level = i.level; block = i.block }, above))
-    (λ free. above) each own
-    (rises_above m h (block_of m h o' os) own above) in
+    (λ is jumps.
+    let i = e.inner is jumps in
+    record {
+      block = i.block;
+      lands = i.lands;
+      carried = i.carried;
+      found = i.found;
+      level = i.level;
+      around = i.around;
+    })
+    each own none in
     let z = known_of m h ih (suc more) blocks c o os
     (record { at = a; words = e.words; clear = e.clear; home = λ no. absurd (cc (sym no ∙ unit)) }) own e.part.waiting
     knows told in
@@ -290,55 +310,74 @@ unit_each once {program} m more each h ih blocks c o os e above unit =
 visited_each :
     MarkedOnce → {program : Y.Program} (m : Main program) (more : ℕ) → EachBody m more → (h : Home) → IsHome' m h →
     (blocks : ℕ) (c : Part) (o : Outer) (os : List Outer) → IsEntered m h (suc more) blocks c o os →
-    (unit : c.unit ≡ false) → IsVisited m h c o os → (has_jumps (list_of m) ≡ true → IsAbove m h os) →
+    (unit : c.unit ≡ false) → IsVisited m h c o os →
     EachThrough 0 (block_of m h o os) (phases_of (block_of m h o os) (ons_in c o)) (labels_in c.body ++ []) c.body
     c.index left_over
-visited_each once m more each h ih blocks c o os e unit v above =
+visited_each once m more each h ih blocks c o os e unit v =
     let k = block_of m h o os in
-    steps_do (visited_listing once m more each h ih blocks c o os e unit v above) (labels_in c.body ++ []) c.body c.index
+    steps_do (visited_listing once m more each h ih blocks c o os e unit v) (labels_in c.body ++ []) c.body c.index
     (around_own k c.body c.index e.part.placed) v.steps (omega arith) (omega arith) e.part.placed (λ x listed. listed)
 
 visited_list :
     MarkedOnce → {program : Y.Program} (m : Main program) (more : ℕ) → EachBody m more → (h : Home) → IsHome' m h →
     (blocks : ℕ) (c : Part) (o : Outer) (os : List Outer) → IsEntered m h (suc more) blocks c o os →
-    (unit : c.unit ≡ false) → IsVisited m h c o os → (has_jumps (list_of m) ≡ true → IsAbove m h os) →
+    (unit : c.unit ≡ false) → IsVisited m h c o os →
     ListDoes (block_of m h o os) c.body c.index left_over
-visited_list once m more each h ih blocks c o os e unit v above =
-    let l = visited_listing once m more each h ih blocks c o os e unit v above in
+visited_list once m more each h ih blocks c o os e unit v =
+    let l = visited_listing once m more each h ih blocks c o os e unit v in
     lists_end.list (block_of m h o os) (ons_in c o) c.body c.index left_over
     (inside_of l c.body c.index e.part.placed)
-    (visited_each once m more each h ih blocks c o os e unit v above) e.part.placed.linked
+    (visited_each once m more each h ih blocks c o os e unit v) e.part.placed.linked
+
+-- where a unit jumps out of ERROR behind a function's list, that goes on
+visited_end :
+    MarkedOnce → {program : Y.Program} (m : Main program) (more : ℕ) → EachBody m more → (h : Home) → IsHome' m h →
+    (blocks : ℕ) (c : Part) (o : Outer) (os : List Outer) → IsEntered m h (suc more) blocks c o os →
+    (unit : c.unit ≡ false) → IsVisited m h c o os → IsFunctionList (block_of m h o os) c.body c.index →
+    (past : Past) → AreBy (ons_in c o) past →
+    EndGoes (phase_at (block_of m h o os) past) (labels_in c.body ++ []) (behind_list (block_of m h o os) c.body c.index)
+visited_end once {program} m more each h ih blocks c o os e unit v list' past known p numbers f among at =
+    let k = phase_at (block_of m h o os) past in
+    let own = labels_in c.body ++ [] in
+    let line = o.around.line in
+    let acts = p.state.world.acts in
+    let routines = error_routines once program m.loadable in
+    let here = list'.linked.inside in
+    let n0 = size_append (stmts_code o.environment none_taken c.body) (no_value line) in
+    comes_map (error_aims (Unit {0}) (setting_of k own line (most_for program)) acts) (turn_aims k own acts left_over)
+    refl (error {R = Unit {0}} o.around no_value_code h.acts p.state)
+    (λ c' f' v' r s q. absurd q)
+    (λ c' f' v' height label s q. q)
+    (λ c' f' v' r s q. absurd q)
+    (end_goes k own c.body c.index (most_for program)
+    (past_list (block_of m h o os) (ons_in c o) past (visited_placed v) known c.body c.index list') routines
+    (visited_error once m more each h ih blocks c o os e unit v past known line routines) (omega (arith, here, n0)) p
+    numbers f among at)
 
 visited_function :
     MarkedOnce → {program : Y.Program} (m : Main program) (more : ℕ) → EachBody m more → (h : Home) → IsHome' m h →
     (blocks : ℕ) (c : Part) (o : Outer) (os : List Outer) → IsEntered m h (suc more) blocks c o os →
-    (unit : c.unit ≡ false) → IsVisited m h c o os → (has_jumps (list_of m) ≡ true → IsAbove m h os) →
-    IsFunctionList (block_of m h o os) c.body c.index → FunctionDoes (block_of m h o os) c.body c.index
-visited_function once {program} m more each h ih blocks c o os e unit v above list' =
+    (unit : c.unit ≡ false) → IsVisited m h c o os → IsFunctionList (block_of m h o os) c.body c.index →
+    FunctionDoes (block_of m h o os) c.body c.index
+visited_function once m more each h ih blocks c o os e unit v list' =
     let k = block_of m h o os in
-    let l = visited_listing once m more each h ih blocks c o os e unit v above in
-    let routines = error_routines once program m.loadable in
-    let here = list'.linked.inside in
-    let n0 = size_append (stmts_code o.environment none_taken c.body) (no_value o.around.line) in
-    lists_end.function k (ons_in c o) c.body c.index list' (inside_of l c.body c.index e.part.placed)
-    (visited_each once m more each h ih blocks c o os e unit v above)
+    let l = visited_listing once m more each h ih blocks c o os e unit v in
+    functions_turn k (ons_in c o) c.body c.index list' (inside_of l c.body c.index e.part.placed)
+    (visited_each once m more each h ih blocks c o os e unit v)
     (λ first phase.
-    subst (λ q. EndDoes (in_phase k q) (behind_list k c.body c.index)) (sym phase.2)
-    (end_by (phase_at k phase.0) c.body c.index (most_for program)
-    (past_list k (ons_in c o) phase.0 (visited_placed v) phase.1 c.body c.index list') routines
-    (visited_error once m more each h ih blocks c o os e unit v above phase.0 phase.1 o.around.line routines)
-    (omega (arith, here, n0))))
+    subst (λ q. EndGoes (in_phase k q) (labels_in c.body ++ []) (behind_list k c.body c.index)) (sym phase.2)
+    (visited_end once m more each h ih blocks c o os e unit v list' phase.0 phase.1))
 
 pub each_body : MarkedOnce → {program : Y.Program} (m : Main program) (more : ℕ) → EachBody m more
-each_body once m zero h blocks c o os ih e above =
+each_body once m zero h blocks c o os ih e =
     let enough = e.at.enough in
     let allowed = e.at.begun.resumes.stands.allowed in
     absurd (omega (arith, enough, allowed))
-each_body once {program} m (suc more) h blocks c o os ih e above =
+each_body once {program} m (suc more) h blocks c o os ih e =
     let each = each_body once m more in
     record {
-      each = λ unit. unit_each once m more each h ih blocks c o os e above unit;
-      list = λ unit. visited_list once m more each h ih blocks c o os e unit (e.visited unit) above;
+      each = λ unit. unit_each once m more each h ih blocks c o os e unit;
+      list = λ unit. visited_list once m more each h ih blocks c o os e unit (e.visited unit);
       function = λ unit list'.
-          visited_function once m more each h ih blocks c o os e unit (e.visited unit) above list';
+          visited_function once m more each h ih blocks c o os e unit (e.visited unit) list';
     }

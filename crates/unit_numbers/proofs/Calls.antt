@@ -49,7 +49,8 @@ use Rattle.unit_numbers.proofs.Named.{Moment, are_made, bare_block, entered_at}
 use Rattle.unit_numbers.proofs.NestedJumps.{nested_jump_call_does, nested_jump_function_does}
 use Rattle.unit_numbers.proofs.Established.{entry_low}
 use Rattle.unit_numbers.proofs.Raised.{around_for}
-use Rattle.unit_numbers.proofs.Scenes.{EachBody, IsAt, Part, Rises, block_of, scope_of}
+use Rattle.unit_numbers.proofs.Hosts.{Part}
+use Rattle.unit_numbers.proofs.Scenes.{Carries, EachBody, IsAt, block_of, carries_more, scope_of}
 
 -- the frame of what is called has room
 frame_fits :
@@ -79,13 +80,13 @@ past used e = grind (arith, e, nat_tests)
 call_by :
     MarkedOnce → {program : Y.Program} (m : Main program) (h : Home) → IsHome' m h → (more b : ℕ) (part : Part)
     (out : Outer) (os : List Outer) → IsAt m h (suc more) (suc b) part out os → EachBody m more →
-    (own : List Label) → Rises m h (block_of m h out os) own → (words : ℕ) → words ≤ most_set →
+    (own : List Label) → Carries part own → (words : ℕ) → words ≤ most_set →
     (labels : List Label) → Includes own labels → (level number line index : ℕ) →
     Inner m part.caller false level number → line < 2 ^ 31 →
     Linked (links_for program) (linked_code (code_for program)) index
     (stmt_code out.environment (set_aside words) (call_statement level number line)) →
     DoesWith words (block_of m h out os) labels (call_statement level number line) index left_over
-call_by once {program} m h ih more b part out os a each own rises words set labels includes level number line index i
+call_by once {program} m h ih more b part out os a each own carries words set labels includes level number line index i
     less l =
     let k = block_of m h out os in
     let used = automatic_in_use k.first.state.living + bytes_of (variables_of_block program i.head.number) in
@@ -136,7 +137,8 @@ call_by once {program} m h ih more b part out os a each own rises words set labe
     let r = entered_at i k call p numbers in
     let os' = as_outer k labels ∷ os in
     (each h b (called_part i) (as_outer (bare_block m h false more r) []) os' ih
-    (called_entered once m (record { at = a; among = o }) i call labels pass shallow b') (rises labels includes)).list
+    (called_entered once m (record { at = a; among = o }) i call labels
+    (carries_more part own labels carries includes) pass shallow b')).list
     refl)
     a.begun)
     (λ e.
@@ -149,11 +151,11 @@ call_by once {program} m h ih more b part out os a each own rises words set labe
 value_by :
     MarkedOnce → {program : Y.Program} (m : Main program) (h : Home) → IsHome' m h → (more b : ℕ) (part : Part)
     (out : Outer) (os : List Outer) → IsAt m h (suc more) (suc b) part out os → EachBody m more →
-    (own : List Label) → Rises m h (block_of m h out os) own → (words : ℕ) → words ≤ most_set →
+    (own : List Label) → Carries part own → (words : ℕ) → words ≤ most_set →
     (labels : List Label) → Includes own labels → (line level number : ℕ) →
     Inner m part.caller true level number →
     L.Does (setting_around words (block_of m h out os) labels line (most_for program)) 0 (call_number level number)
-value_by once {program} m h ih more b part out os a each own rises words set labels includes line level number i =
+value_by once {program} m h ih more b part out os a each own carries words set labels includes line level number i =
     let k = block_of m h out os in
     let z = setting_around words k labels line (most_for program) in
     let used = automatic_in_use k.first.state.living + bytes_of (variables_of_block program i.head.number) in
@@ -196,7 +198,8 @@ value_by once {program} m h ih more b part out os a each own rises words set lab
     let os' = as_outer k labels ∷ os in
     let moment : Moment m h (suc more) (suc b) part out os p numbers = record { at = a; among = o } in
     let goes = each h b (called_part i) (as_outer (bare_block m h true more r) []) os' ih
-    (called_entered once m moment i call labels pass shallow list'.begun) (rises labels includes) in
+    (called_entered once m moment i call labels (carries_more part own labels carries includes) pass shallow
+    list'.begun) in
     goes.function refl list'))
     (λ e.
     full_function_ends z c level more is shallow
@@ -208,16 +211,16 @@ value_by once {program} m h ih more b part out os a each own rises words set lab
 pub calls_of :
     MarkedOnce → {program : Y.Program} (m : Main program) (h : Home) → IsHome' m h → (more blocks : ℕ) (part : Part)
     (out : Outer) (os : List Outer) → IsAt m h (suc more) blocks part out os → EachBody m more →
-    (own : List Label) → Rises m h (block_of m h out os) own →
+    (own : List Label) → Carries part own →
     KnowsCalls (scope_of m part) (block_of m h out os) own (most_for program) left_over
-calls_of once m h ih more zero part out os a each own rises =
+calls_of once m h ih more zero part out os a each own carries =
     let some = a.depth.some in absurd (omega (arith, some))
-calls_of once m h ih more (suc b) part out os a each own rises =
+calls_of once m h ih more (suc b) part out os a each own carries =
     record {
       functions = λ words set labels line level n includes f.
-          value_by once m h ih more b part out os a each own rises words set.0 labels includes line level n
+          value_by once m h ih more b part out os a each own carries words set.0 labels includes line level n
           (inner_is m part.caller true level n f);
       procedures = λ words set labels level n line index includes f less l.
-          call_by once m h ih more b part out os a each own rises words set.0 labels includes level n line index
+          call_by once m h ih more b part out os a each own carries words set.0 labels includes level n line index
           (inner_is m part.caller false level n f) less l;
     }

@@ -2,7 +2,7 @@
 use Rattle.std.proofs.Common.{◌≡◌, ℕ, suc, ◌+◌, ◌^◌, ◌<◌, List, [], ◌∷◌, length, Bool, None, Some, true, false, refl}
 use Rattle.std.proofs.Common.{inl, sym, ap, ◌∙◌, subst}
 use Rattle.std.proofs.Common.{arith}
-use Rattle.std.specs.Prelude.{◌&&◌, cond, nat_lt, ◌==◌}
+use Rattle.std.specs.Prelude.{cond, nat_lt, ◌==◌}
 use Rattle.std.proofs.lemmas.Bool.{ltb-true}
 use Rattle.pli_language.specs.declared.condition.Condition.{Condition}
 use Rattle.pli_typing.specs.TypedTree as Y
@@ -13,12 +13,15 @@ use Rattle.pli_meaning.specs.StorageState.{newest_height, oncode_of}
 use Rattle.pli_meaning.specs.BasicValues.{VariableName}
 use Rattle.pli_meaning.specs.Making.{with_binding}
 use Rattle.pli_meaning.specs.World.{World}
-use Rattle.pli_coding.specs.Frames.{fixed_size}
+use Rattle.pli_coding.specs.Environments.{none_taken}
+use Rattle.pli_coding.specs.Frames.{fixed_size, parameters_in}
+use Rattle.pli_coding.specs.Images.{linked_code}
 use Rattle.code_marks.specs.CodeMarks.{MarkedOnce}
 use Rattle.storage_relation.proofs.Holders.{eqb-other, eqb-refl}
 use Rattle.activation_relation.specs.Frames.{lower_end, upper_top}
 use Rattle.activation_relation.specs.Layers.{Layer, Point}
-use Rattle.program_places.specs.Programs.{body_for, environment_for}
+use Rattle.program_places.specs.Programs.{body_for, code_for, environment_for, links_for}
+use Rattle.program_places.proofs.Labels.{label_of}
 use Rattle.program_places.proofs.Blocks.{own_block}
 use Rattle.program_places.proofs.Callees.{end_is}
 use Rattle.program_places.proofs.Found.{known}
@@ -45,14 +48,14 @@ use Rattle.condition_codes.specs.Codes.{HasCode}
 use Rattle.jump_runs.proofs.Numbers.{alone, leaving, number_leaving}
 use Rattle.unit_numbers.proofs.Arrays.{array_leaving, narrow_leaving}
 use Rattle.unit_numbers.proofs.Callees.{Called, callee_of}
-use Rattle.unit_numbers.specs.Calls.{has_jumps, is_jumped_to}
 use Rattle.unit_numbers.proofs.Homes.{Home, world_of}
-use Rattle.unit_numbers.proofs.Hosts.{InForceBelow, IsNext, force_next, in_force_below}
+use Rattle.unit_numbers.proofs.Hosts.{InForceBelow, IsNext, Part, force_next, in_force_below}
 use Rattle.unit_numbers.proofs.Inner.{Inner, inner_held, inner_ons, inner_set}
-use Rattle.unit_numbers.proofs.Mains.{Main, list_of}
+use Rattle.unit_numbers.proofs.Mains.{Main}
+use Rattle.unit_numbers.proofs.Outer.{block_saves, frame_top, made_stacks}
 use Rattle.unit_numbers.proofs.Named.{DontPass, Moment, are_made, bare_block, begun_room, called_scope, each_array}
 use Rattle.unit_numbers.proofs.Named.{each_narrow, each_number, entered_at, made_idle, nested_by}
-use Rattle.unit_numbers.proofs.Scenes.{IsEntered, Part, block_of, may_host}
+use Rattle.unit_numbers.proofs.Scenes.{Carries, IsEntered, block_of, may_host}
 
 -- ---- its activation: it has no units of its own
 
@@ -135,15 +138,6 @@ oldest_there m {h} {out = out} {os} {p} o {v} {level} i call =
 nested_leaving : (k : Block) (os : List Outer) → IsNested k → IsNested (leaving k os)
 nested_leaving k os n = record { own = n.own; few = n.few; some = n.some; same = n.same }
 
--- units jump to no label of it
-called_unjumped :
-    {program : Y.Program} {m : Main program} {caller : Y.BlockHead} {v : Bool} {level number : ℕ}
-    (i : Inner m caller v level number) (all : Y.Stmts) → is_jumped_to i.head false all ≡ false
-called_unjumped {level = level} i all =
-    let inside = i.inside in
-    let e : (i.head.level == 0) ≡ false = eqb-other i.head.level 0 (λ f. omega (arith, inside, f)) in
-    ap (λ q. q && has_jumps all) e
-
 -- what runs
 abbrev pub called_part :
     {program : Y.Program} → {m : Main program} → {caller : Y.BlockHead} → {valued : Bool} → {level number : ℕ} →
@@ -151,6 +145,7 @@ abbrev pub called_part :
 called_part {program} {valued = valued} i =
     record {
       caller = i.head;
+      all = i.body;
       unit = false;
       writes = false;
       valued = valued;
@@ -210,15 +205,15 @@ pub called_entered :
     MarkedOnce → {program : Y.Program} (m : Main program) {h : Home} {more b : ℕ} {part : Part} {out : Outer}
     {os : List Outer} {p : Point} {numbers : ℕ → ℕ} (o : Moment m h (suc more) (suc b) part out os p numbers)
     {v : Bool} {level number : ℕ} (i : Inner m part.caller v level number) (call : ℕ) (labels : List Label) →
-    DontPass (block_of m h out os) i →
+    Carries part labels → DontPass (block_of m h out os) i →
     nat_lt (length out.first.state.activations) most_activations ≡ true →
     IsBegun (whole_block m h v more (entered_at i (block_of m h out os) call p numbers)
     (as_outer (block_of m h out os) labels ∷ os)) →
     IsEntered m h more b (called_part i)
     (as_outer (bare_block m h v more (entered_at i (block_of m h out os) call p numbers)) [])
     (as_outer (block_of m h out os) labels ∷ os)
-called_entered once {program} m {h} {more} {b} {part} {out} {os} {p} {numbers} o {v} {level} i call labels pass few b'
-    =
+called_entered once {program} m {h} {more} {b} {part} {out} {os} {p} {numbers} o {v} {level} i call labels
+    carries pass few b' =
     let w = world_of m h in
     let k = block_of m h out os in
     let r = entered_at i k call p numbers in
@@ -261,7 +256,8 @@ called_entered once {program} m {h} {more} {b} {part} {out} {os} {p} {numbers} o
     (record { activation = _; below = _; active = refl; some = omega arith }) in
     let inside = i.inside in
     let above = called_above v m o i call in
-    let next : IsNext k (whole_block m h v more r os') numbers p = record {
+    let stacks = made_stacks φ xs start in
+    let next : IsNext k (whole_block m h v more r os') numbers p labels = record {
       among = o.among;
       activation = _;
       layer = _;
@@ -269,9 +265,10 @@ called_entered once {program} m {h} {more} {b} {part} {out} {os} {p} {numbers} o
       layers = room.newest;
       forced = λ d. ap (λ as'. force as' d) above.is;
       remains = b'.remains;
+      outers = refl;
     } in
     let below : (d : Condition) → InForceBelow m (whole_block m h v more r os') d = λ d.
-    force_next next (may_host o.at) d (o.at.forced d) in
+    force_next next (may_host o.at) carries d (o.at.forced d) in
     record {
       at = record {
         begun = b';
@@ -290,7 +287,7 @@ called_entered once {program} m {h} {more} {b} {part} {out} {os} {p} {numbers} o
         narrows = λ x is.
             narrow_leaving inner os' x (type_known (called_scope m i) x) (each_narrow m o i call pass bare x is);
         forced = λ d. in_force_below (below d);
-        settled = λ jumped. absurd (cc (sym (called_unjumped i (list_of m)) ∙ jumped));
+        settled = λ jumped outer. absurd (omega (arith, inside, outer));
         oldest = oldest_there m o i call;
         idle = made_idle φ xs start;
         code = code_there m o i call;
@@ -328,5 +325,16 @@ called_entered once {program} m {h} {more} {b} {part} {out} {os} {p} {numbers} o
         inner = omega (arith, inside);
         below = below;
         home = called_home once v m h more i k call p numbers os' b';
+        own = refl;
+        lands = λ jumps. record {
+          registers = λ label among. block_saves program i.head i.body label among;
+          entries = stacks.entries;
+          edits = stacks.edits;
+          top = frame_top program i.head w _ _ p.control.layers 0 (ap parameters_in i.is) plain room;
+          number = refl;
+          placed = λ label among.
+              label_of (links_for program) (linked_code (code_for program)) (body_for program i.head i.body) e none_taken
+              i.body (body_placed once program i.head i.body (result_of v) m.loadable i.is) label among;
+        };
       };
     }

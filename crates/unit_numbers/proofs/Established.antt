@@ -69,38 +69,39 @@ entry_low e number (p ∷ ps) index =
 
 -- ---- an ON of a list of the program
 
-pub record IsOnOf {program : Y.Program} (m : Main program) (head : Y.BlockHead) (e : OnUnit × ℕ) : Type 0 where
-  pub is : is_unit program m.called head (list_of m) e.0 ≡ true
-  pub placed :
-      Placed (links_for program) (linked_code (code_for program)) e.1
-      (stmt_code (environment_for program head) none_taken (on_of e.0))
-  pub low : procedures_index program ≤ e.1
-  pub level : head.level < 16
-  pub listed : IsListed e (all_ons m)
+pub record IsOnOf {program : Y.Program} (m : Main program) (head : Y.BlockHead) (all : Y.Stmts) (e : OnUnit × ℕ) : Type 0
+  where
+    pub is : is_unit program m.called head all e.0 ≡ true
+    pub placed :
+        Placed (links_for program) (linked_code (code_for program)) e.1
+        (stmt_code (environment_for program head) none_taken (on_of e.0))
+    pub low : procedures_index program ≤ e.1
+    pub level : head.level < 16
+    pub listed : IsListed e (all_ons m)
 
 -- where the code of a block stands
 abbrev site_at : {program : Y.Program} → Main program → Y.BlockHead → Block
 site_at {program} m head = record (block_for m [] 0) { environment = environment_for program head }
 
 pub ons_are :
-    {program : Y.Program} (m : Main program) (head : Y.BlockHead) (valued : Bool) (labels : List Label) (body : Y.Stmts)
+    {program : Y.Program} (m : Main program) (head : Y.BlockHead) (all : Y.Stmts) (valued : Bool) (labels : List Label) (body : Y.Stmts)
     (index : ℕ) → head.level < 16 → procedures_index program ≤ index → AreStanding (site_at m head) body index →
-    are_steps program m.called head (list_of m) valued labels body ≡ true →
+    are_steps program m.called head all valued labels body ≡ true →
     ((e : OnUnit × ℕ) → IsListed e (all_placed_in (environment_for program head) body index) →
     IsListed e (all_ons m)) → (e : OnUnit × ℕ) →
-    IsListed e (all_placed_in (environment_for program head) body index) → IsOnOf m head e
-ons_are {program} m head valued labels body index level low at steps among e there =
-    let o = all_on_placed program m.called head (list_of m) (site_at m head) valued labels body index steps at e there in
+    IsListed e (all_placed_in (environment_for program head) body index) → IsOnOf m head all e
+ons_are {program} m head all valued labels body index level low at steps among e there =
+    let o = all_on_placed program m.called head all (site_at m head) valued labels body index steps at e there in
     let behind = o.behind in
     record { is = o.is; placed = o.placed; low = omega (arith, low, behind); level = level; listed = among e there }
 
 pub main_on :
     MarkedOnce → {program : Y.Program} (m : Main program) (e : OnUnit × ℕ) → IsListed e (ons_of m) →
-    IsOnOf m m.head e
+    IsOnOf m m.head (list_of m) e
 main_on once {program} m e there =
     let low = entry_low (program_environment program) m.head.number program.procedures (procedures_index program) in
     let level = level_of m in
-    ons_are m m.head false (labels_in (list_of m) ++ []) (list_of m) (start_of m) (omega (arith, level))
+    ons_are m m.head (list_of m) false (labels_in (list_of m) ++ []) (list_of m) (start_of m) (omega (arith, level))
     (omega (arith, low))
     (list_placed once m [] 0) m.steps
     (λ x h. listed_front x (ons_of m) (called_placed program m.called) h) e there

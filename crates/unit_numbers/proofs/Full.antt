@@ -32,7 +32,8 @@ use Rattle.unit_numbers.proofs.Named.{Moment, entered_at}
 use Rattle.unit_numbers.proofs.Homes.{Home, world_of}
 use Rattle.unit_numbers.proofs.Inner.{Inner, inner_set}
 use Rattle.unit_numbers.proofs.Mains.{Main}
-use Rattle.unit_numbers.proofs.Scenes.{Part, block_of}
+use Rattle.unit_numbers.proofs.Hosts.{Part}
+use Rattle.unit_numbers.proofs.Scenes.{block_of}
 
 pub are_full :
     {program : Y.Program} (m : Main program) {h : Home} {more b : ℕ} {part : Part} {out : Outer} {os : List Outer}

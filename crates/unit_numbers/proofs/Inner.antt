@@ -28,25 +28,24 @@ use Rattle.phase_runs.specs.Units.{IsListed}
 use Rattle.unit_numbers.specs.Called.{are_called, is_called_if, is_list_of}
 use Rattle.unit_numbers.specs.Steps.{are_steps}
 use Rattle.unit_numbers.proofs.Established.{IsOnOf, called_listed, entry_low, ons_are}
-use Rattle.unit_numbers.proofs.Mains.{Main, called_placed, list_of, main_scope, ons_of, placed_if}
+use Rattle.unit_numbers.proofs.Mains.{Main, called_placed, main_scope, ons_of, placed_if}
 use Rattle.unit_numbers.proofs.Places.{all_placed_in, listed_back}
 use Rattle.unit_numbers.proofs.Takes.{behind_variables, steps_taken}
 
 -- its list is of the class, with what its temporaries and its loops take
-pub record ListFit (program : Y.Program) (ns : List ℕ) (all : Y.Stmts) (head : Y.BlockHead) (valued : Bool)
-    (body : Y.Stmts) : Type 0
+pub record ListFit (program : Y.Program) (ns : List ℕ) (head : Y.BlockHead) (valued : Bool) (body : Y.Stmts) : Type 0
   where
-    pub steps : are_steps program ns head all valued (labels_in body ++ []) body ≡ true
+    pub steps : are_steps program ns head body valued (labels_in body ++ []) body ≡ true
     pub fits : statements_need body ≤ held_registers
     pub waiting : statements_set body ≤ most_waiting
 
 list_fit :
-    (program : Y.Program) (ns : List ℕ) (all : Y.Stmts) (head : Y.BlockHead) (valued : Bool) (body : Y.Stmts) →
-    is_list_of program ns all head valued body ≡ true → ListFit program ns all head valued body
-list_fit program ns all head valued body h =
+    (program : Y.Program) (ns : List ℕ) (head : Y.BlockHead) (valued : Bool) (body : Y.Stmts) →
+    is_list_of program ns head valued body ≡ true → ListFit program ns head valued body
+list_fit program ns head valued body h =
     let fits = nat_le (statements_need body) held_registers in
     let waiting = nat_le (statements_set body) most_waiting in
-    let a = and_parts (are_steps program ns head all valued (labels_in body ++ []) body) (fits && waiting) h in
+    let a = and_parts (are_steps program ns head body valued (labels_in body ++ []) body) (fits && waiting) h in
     let b = and_parts fits waiting a.1 in
     record {
       steps = a.0;
@@ -65,7 +64,7 @@ pub record Inner {program : Y.Program} (m : Main program) (caller : Y.BlockHead)
     pub around_it : level ≤ caller.level
     pub alike : stand_alike (environment_for program caller) (environment_for program head) level ≡ true
     pub listed : list_any (λ n. n == number) m.called ≡ true
-    pub fit : ListFit program m.called (list_of m) head valued body
+    pub fit : ListFit program m.called head valued body
 
 number_found :
     (number : ℕ) (p : Y.Procedure) (ps : List Y.Procedure) → procedure_numbered number ps ≡ Some p →
@@ -84,27 +83,27 @@ number_found number p (q ∷ qs) e = by ((head_of q.block).number == number) ref
 
 -- one of the numbers of a closed list
 listed_inner :
-    (program : Y.Program) (all : Y.Stmts) (called : List ℕ) (number : ℕ) (ns : List ℕ) →
-    are_called program all called ns ≡ true →
+    (program : Y.Program) (called : List ℕ) (number : ℕ) (ns : List ℕ) →
+    are_called program called ns ≡ true →
     list_any (λ n. n == number) ns ≡ true →
-    is_called_if program called all (procedure_numbered number program.procedures) ≡ true
-listed_inner program all called number [] closed h = absurd (cc h)
-listed_inner program all called number (n ∷ ns) closed h =
-    by (n == number) refl h (λ f. listed_inner program all called number ns parts.1 f)
+    is_called_if program called (procedure_numbered number program.procedures) ≡ true
+listed_inner program called number [] closed h = absurd (cc h)
+listed_inner program called number (n ∷ ns) closed h =
+    by (n == number) refl h (λ f. listed_inner program called number ns parts.1 f)
   where
     parts :
-        (is_called_if program called all (procedure_numbered n program.procedures) ≡ true)
-        × (are_called program all called ns ≡ true)
-    parts = and_parts (is_called_if program called all (procedure_numbered n program.procedures))
-        (are_called program all called ns) closed
+        (is_called_if program called (procedure_numbered n program.procedures) ≡ true)
+        × (are_called program called ns ≡ true)
+    parts = and_parts (is_called_if program called (procedure_numbered n program.procedures))
+        (are_called program called ns) closed
 
     by :
         (q : Bool) → (n == number) ≡ q → (q || list_any (λ i. i == number) ns) ≡ true →
         (list_any (λ i. i == number) ns ≡ true →
-        is_called_if program called all (procedure_numbered number program.procedures) ≡ true) →
-        is_called_if program called all (procedure_numbered number program.procedures) ≡ true
+        is_called_if program called (procedure_numbered number program.procedures) ≡ true) →
+        is_called_if program called (procedure_numbered number program.procedures) ≡ true
     by true e f rest =
-        subst (λ i. is_called_if program called all (procedure_numbered i program.procedures) ≡ true)
+        subst (λ i. is_called_if program called (procedure_numbered i program.procedures) ≡ true)
         (eqb-true n number e) parts.0
     by false e f rest = rest f
 
@@ -119,7 +118,7 @@ pub inner_is :
     is_callable program m.called caller 0 valued level number ≡ true → Inner m caller valued level number
 inner_is {program} m caller valued level number h =
     by (procedure_numbered number program.procedures) refl parts.1
-    (listed_inner program (list_of m) m.called number m.called m.calls parts.0)
+    (listed_inner program m.called number m.called m.calls parts.0)
   where
     parts :
         (list_any (λ n. n == number) m.called ≡ true)
@@ -129,7 +128,7 @@ inner_is {program} m caller valued level number h =
 
     by :
         (o : Option Y.Procedure) → procedure_numbered number program.procedures ≡ o →
-        is_declared_if program caller 0 valued level o ≡ true → is_called_if program m.called (list_of m) o ≡ true →
+        is_declared_if program caller 0 valued level o ≡ true → is_called_if program m.called o ≡ true →
         Inner m caller valued level number
     by None e f g = absurd (cc f)
     by (Some p) e f g =
@@ -142,10 +141,10 @@ inner_is {program} m caller valued level number h =
         ((head.level == suc level) && (nat_le level caller.level && alike)) a.1 in
         let c = and_parts (head.level == suc level) (nat_le level caller.level && alike) b.1 in
         let d = and_parts (nat_le level caller.level) alike c.1 in
-        let fits = is_list_of program m.called (list_of m) head (is_valued p.result) body in
+        let fits = is_list_of program m.called head (is_valued p.result) body in
         let i = and_parts (has_none p.parameters) (not ((head_of p.block).level == 0) && fits) g in
         let inner = and_parts (not ((head_of p.block).level == 0)) fits i.1 in
-        let own = subst (λ v. is_list_of program m.called (list_of m) head v body ≡ true)
+        let own = subst (λ v. is_list_of program m.called head v body ≡ true)
         (valued_is valued p.result b.0) inner.1 in
         let n = number_found number p program.procedures e in
         record {
@@ -159,7 +158,7 @@ inner_is {program} m caller valued level number h =
           around_it = leb-true level caller.level d.0;
           alike = d.1;
           listed = parts.0;
-          fit = list_fit program m.called (list_of m) head valued body own;
+          fit = list_fit program m.called head valued body own;
         }
 
 -- ---- its list
@@ -173,7 +172,7 @@ inner_taken {program} m {valued = valued} i =
     let plain = block_plain program.variables i.head.number m.plain in
     behind_variables (main_scope m false) program i.head.number (statements_need i.body) (statements_set i.body) i.body
     plain.plain
-    (steps_taken program m.called i.head (list_of m) valued (labels_in i.body ++ []) i.body i.fit.steps i.fit.fits)
+    (steps_taken program m.called i.head i.body valued (labels_in i.body ++ []) i.body i.fit.steps i.fit.fits)
 
 pub inner_set :
     {program : Y.Program} (m : Main program) {caller : Y.BlockHead} {valued : Bool} {level number : ℕ}
@@ -195,12 +194,12 @@ pub inner_ons :
     MarkedOnce → {program : Y.Program} (m : Main program) {caller : Y.BlockHead} {valued : Bool} {level number : ℕ}
     (i : Inner m caller valued level number) (e : OnUnit × ℕ) →
     IsListed e (all_placed_in (environment_for program i.head) i.body (body_for program i.head i.body)) →
-    IsOnOf m i.head e
+    IsOnOf m i.head i.body e
 inner_ons once {program} m {valued = valued} {number = number} i e there =
     let low = entry_low (program_environment program) i.head.number program.procedures (procedures_index program) in
     let found = subst (λ n. procedure_numbered n program.procedures
     ≡ Some (record { block = Y.BlockOf i.head i.body; parameters = []; result = result_of valued })) i.numbered i.is in
-    ons_are m i.head valued (labels_in i.body ++ []) i.body (body_for program i.head i.body)
+    ons_are m i.head i.body valued (labels_in i.body ++ []) i.body (body_for program i.head i.body)
     (known program i.head i.body (result_of valued) m.loadable.well_formed i.is).level (omega (arith, low))
     (body_placed once program i.head i.body (result_of valued) m.loadable i.is) i.fit.steps
     (λ x h.

@@ -38,7 +38,7 @@ use Rattle.unit_numbers.specs.Steps.{are_steps, is_plain_step, is_step, is_step_
 use Rattle.unit_numbers.specs.Units.{is_unit}
 use Rattle.unit_numbers.proofs.Inside.{first_stands, group_stands, met_stands, one_stands, rest_stands, second_stands}
 use Rattle.unit_numbers.proofs.Inside.{turns_stand}
-use Rattle.unit_numbers.proofs.Mains.{Main, list_of}
+use Rattle.unit_numbers.proofs.Mains.{Main}
 use Rattle.unit_numbers.proofs.Places.{all_placed_in, listed_back, listed_front, placed_in}
 use Rattle.unit_numbers.proofs.Units.{unit_is}
 use Rattle.unit_numbers.proofs.Visited.{past_world}
@@ -48,7 +48,7 @@ abbrev pub most_of : Block → ℕ
 most_of k = length k.call.code + 2
 
 -- the block of such a list, with its ONs and its labels, and what its temporaries and its loops take
-pub record Listing {program : Y.Program} (m : Main program) (head : Y.BlockHead) (valued : Bool) (k : Block)
+pub record Listing {program : Y.Program} (m : Main program) (head : Y.BlockHead) (all : Y.Stmts) (valued : Bool) (k : Block)
     (ons : List (OnUnit × ℕ)) (own : List Label) (need sets : ℕ) : Type 0
   where
     pub small : k.call.surroundings.acts + 1 < 2 ^ 64
@@ -63,26 +63,26 @@ pub record Listing {program : Y.Program} (m : Main program) (head : Y.BlockHead)
     -- a statement that leaves the units alone
     pub plain :
         (past : Past) → AreBy ons past → (labels : List Label) (stmt : Y.Stmt) (index : ℕ) → AreAround k own labels →
-        is_plain_step program m.called head (list_of m) valued labels stmt ≡ true → statement_needs stmt ≤ need →
+        is_plain_step program m.called head all valued labels stmt ≡ true → statement_needs stmt ≤ need →
         statement_sets stmt ≤ sets → Standing k stmt index →
         Does (in_phase k (past_point past k.first)) labels stmt index left_over
     -- and a test
     pub tests :
         (past : Past) → AreBy ons past → (labels : List Label) (line : ℕ) → Includes own labels →
-        (condition : Y.Bit) → is_step_test program m.called head (list_of m) condition ≡ true →
+        (condition : Y.Bit) → is_step_test program m.called head all condition ≡ true →
         Tests (setting_around 0 (in_phase k (past_point past k.first)) labels line (most_of k)) (test_needs condition)
         condition
 
 all_begun :
-    {program : Y.Program} {m : Main program} {head : Y.BlockHead} {valued : Bool} {k : Block} {ons : List (OnUnit × ℕ)}
-    {own : List Label} {need sets : ℕ} → Listing m head valued k ons own need sets → AreBegun k (phases_of k ons)
+    {program : Y.Program} {m : Main program} {head : Y.BlockHead} {all : Y.Stmts} {valued : Bool} {k : Block} {ons : List (OnUnit × ℕ)}
+    {own : List Label} {need sets : ℕ} → Listing m head all valued k ons own need sets → AreBegun k (phases_of k ons)
 all_begun {k = k} {ons} l = (phases_change k ons).begun l.begun l.placed
 
 plain_does :
-    {program : Y.Program} {m : Main program} {head : Y.BlockHead} {valued : Bool} {k : Block} {ons : List (OnUnit × ℕ)}
-    {own : List Label} {need sets : ℕ} → Listing m head valued k ons own need sets → (labels : List Label)
+    {program : Y.Program} {m : Main program} {head : Y.BlockHead} {all : Y.Stmts} {valued : Bool} {k : Block} {ons : List (OnUnit × ℕ)}
+    {own : List Label} {need sets : ℕ} → Listing m head all valued k ons own need sets → (labels : List Label)
     (stmt : Y.Stmt) (index : ℕ) → AreAround k own labels →
-    is_plain_step program m.called head (list_of m) valued labels stmt ≡ true →
+    is_plain_step program m.called head all valued labels stmt ≡ true →
     statement_needs stmt ≤ need → statement_sets stmt ≤ sets → Standing k stmt index →
     DoesThrough 0 k (phases_of k ons) labels stmt index left_over
 plain_does {k = k} {ons} l labels stmt index around is fits sets at =
@@ -92,10 +92,10 @@ plain_does {k = k} {ons} l labels stmt index around is fits sets at =
     (l.plain phase.0 phase.1 labels stmt index around is fits sets at))
 
 tests_through :
-    {program : Y.Program} {m : Main program} {head : Y.BlockHead} {valued : Bool} {k : Block} {ons : List (OnUnit × ℕ)}
-    {own : List Label} {need sets : ℕ} → Listing m head valued k ons own need sets → (labels : List Label) (line : ℕ) →
+    {program : Y.Program} {m : Main program} {head : Y.BlockHead} {all : Y.Stmts} {valued : Bool} {k : Block} {ons : List (OnUnit × ℕ)}
+    {own : List Label} {need sets : ℕ} → Listing m head all valued k ons own need sets → (labels : List Label) (line : ℕ) →
     Includes own labels → (condition : Y.Bit) →
-    is_step_test program m.called head (list_of m) condition ≡ true →
+    is_step_test program m.called head all condition ≡ true →
     AllTest 0 k (phases_of k ons) labels line (most_of k) (test_needs condition) condition
 tests_through {k = k} l labels line includes condition is first phase =
     subst (λ q. Tests (setting_around 0 (in_phase k q) labels line (most_of k)) (test_needs condition) condition)
@@ -104,14 +104,14 @@ tests_through {k = k} l labels line includes condition is first phase =
 -- ---- what stands around each of them
 
 step_act :
-    {program : Y.Program} {m : Main program} {head : Y.BlockHead} {valued : Bool} {k : Block} {ons : List (OnUnit × ℕ)}
-    {own : List Label} {need sets : ℕ} → Listing m head valued k ons own need sets → (line : ℕ) →
+    {program : Y.Program} {m : Main program} {head : Y.BlockHead} {all : Y.Stmts} {valued : Bool} {k : Block} {ons : List (OnUnit × ℕ)}
+    {own : List Label} {need sets : ℕ} → Listing m head all valued k ons own need sets → (line : ℕ) →
     is_line line ≡ true → HasAct k line
 step_act l line is = record { line_fits = ltb-true line (2 ^ 31) is; acts = l.small }
 
 step_test :
-    {program : Y.Program} {m : Main program} {head : Y.BlockHead} {valued : Bool} {k : Block} {ons : List (OnUnit × ℕ)}
-    {own : List Label} {need sets : ℕ} → Listing m head valued k ons own need sets → (stmt : Y.Stmt)
+    {program : Y.Program} {m : Main program} {head : Y.BlockHead} {all : Y.Stmts} {valued : Bool} {k : Block} {ons : List (OnUnit × ℕ)}
+    {own : List Label} {need sets : ℕ} → Listing m head all valued k ons own need sets → (stmt : Y.Stmt)
     (condition : Y.Bit) (line index : ℕ) → is_line line ≡ true → test_needs condition ≤ need → Standing k stmt index →
     HasTestWith 0 k stmt line index (test_needs condition) (most_of k)
 step_test l stmt condition line index is fits at =
@@ -126,8 +126,8 @@ step_test l stmt condition line index is fits at =
     }
 
 pub inside_of :
-    {program : Y.Program} {m : Main program} {head : Y.BlockHead} {valued : Bool} {k : Block} {ons : List (OnUnit × ℕ)}
-    {own : List Label} {need sets : ℕ} → Listing m head valued k ons own need sets → (body : Y.Stmts) (index : ℕ) →
+    {program : Y.Program} {m : Main program} {head : Y.BlockHead} {all : Y.Stmts} {valued : Bool} {k : Block} {ons : List (OnUnit × ℕ)}
+    {own : List Label} {need sets : ℕ} → Listing m head all valued k ons own need sets → (body : Y.Stmts) (index : ℕ) →
     AreStanding k body index → G.IsInside 0 k (phases_of k ons) body index
 inside_of {k = k} l body index at =
     record {
@@ -143,18 +143,18 @@ inside_of {k = k} l body index at =
 -- ---- all of its statements
 
 -- its ONs are among the list's
-abbrev AreAmong : (all ons : List (OnUnit × ℕ)) → Type 0
-AreAmong all ons = (e : OnUnit × ℕ) → IsListed e ons → IsListed e all
+abbrev AreAmong : (xs ons : List (OnUnit × ℕ)) → Type 0
+AreAmong xs ons = (e : OnUnit × ℕ) → IsListed e ons → IsListed e xs
 
 on_step :
-    {program : Y.Program} {m : Main program} {head : Y.BlockHead} {valued : Bool} {k : Block} {ons : List (OnUnit × ℕ)}
-    {own : List Label} {need sets : ℕ} → Listing m head valued k ons own need sets → (labels : List Label)
-    (x : OnUnit) (index : ℕ) → is_unit program m.called head (list_of m) x ≡ true → IsListed (x, index) ons →
+    {program : Y.Program} {m : Main program} {head : Y.BlockHead} {all : Y.Stmts} {valued : Bool} {k : Block} {ons : List (OnUnit × ℕ)}
+    {own : List Label} {need sets : ℕ} → Listing m head all valued k ons own need sets → (labels : List Label)
+    (x : OnUnit) (index : ℕ) → is_unit program m.called head all x ≡ true → IsListed (x, index) ons →
     Standing k (on_of x) index → DoesThrough 0 k (phases_of k ons) labels (on_of x) index left_over
-on_step {program} {m} {head} {k = k} {ons} l labels x index is listed at =
+on_step {program} {m} {head} {all} {k = k} {ons} l labels x index is listed at =
     on_through 0 k (phases_of k ons) labels x index left_over
     (record {
-      act = record { line_fits = (unit_is program m.called head (list_of m) x is).line; acts = l.small };
+      act = record { line_fits = (unit_is program m.called head all x is).line; acts = l.small };
       statement = at.linked;
     })
     (all_begun l) (l.stands (x, index) listed)
@@ -162,10 +162,10 @@ on_step {program} {m} {head} {k = k} {ons} l labels x index is listed at =
 
 mutual
   pub step_does :
-      {program : Y.Program} {m : Main program} {head : Y.BlockHead} {valued : Bool} {k : Block} {ons : List (OnUnit × ℕ)}
-      {own : List Label} {need sets : ℕ} → Listing m head valued k ons own need sets → (labels : List Label) (stmt : Y.Stmt) (index : ℕ) →
+      {program : Y.Program} {m : Main program} {head : Y.BlockHead} {all : Y.Stmts} {valued : Bool} {k : Block} {ons : List (OnUnit × ℕ)}
+      {own : List Label} {need sets : ℕ} → Listing m head all valued k ons own need sets → (labels : List Label) (stmt : Y.Stmt) (index : ℕ) →
       AreAround k own labels →
-      is_step program m.called head (list_of m) valued labels stmt ≡ true →
+      is_step program m.called head all valued labels stmt ≡ true →
       statement_needs stmt ≤ need → statement_sets stmt ≤ sets →
       Standing k stmt index →
       AreAmong ons (placed_in k.environment stmt index) →
@@ -182,9 +182,9 @@ mutual
       revert_through 0 k (phases_of k ons) labels condition line index left_over
       (record { act = step_act l line is; statement = at.linked }) (all_begun l)
       ((phases_change k ons).kept (ByRevert condition) tt)
-  step_does {program} {m} {head} {valued} {k} {ons} {own} l labels (Y.If condition unit line) index around is fits sets at among =
-      let test = is_step_test program m.called head (list_of m) condition in
-      let inner = is_step program m.called head (list_of m) valued labels unit in
+  step_does {program} {m} {head} {all} {valued} {k} {ons} {own} l labels (Y.If condition unit line) index around is fits sets at among =
+      let test = is_step_test program m.called head all condition in
+      let inner = is_step program m.called head all valued labels unit in
       let a = and_parts (is_line line) (test && inner) is in
       let b = and_parts test inner a.1 in
       met_through 0 k (phases_of k ons) labels condition unit line index left_over (test_needs condition)
@@ -193,12 +193,12 @@ mutual
       (tests_through l labels line around.includes condition b.0)
       (step_does l labels unit (behind_test k condition (behind_act line index)) around b.1
       (omega (arith, fits)) (omega (arith, sets)) (met_stands k condition unit line index at) among)
-  step_does {program} {m} {head} {valued} {k} {ons} {own} l labels (Y.IfElse condition unit otherwise line) index around is fits sets at
+  step_does {program} {m} {head} {all} {valued} {k} {ons} {own} l labels (Y.IfElse condition unit otherwise line) index around is fits sets at
       among =
       let e = k.environment in
-      let test = is_step_test program m.called head (list_of m) condition in
-      let first = is_step program m.called head (list_of m) valued labels unit in
-      let second = is_step program m.called head (list_of m) valued labels otherwise in
+      let test = is_step_test program m.called head all condition in
+      let first = is_step program m.called head all valued labels unit in
+      let second = is_step program m.called head all valued labels otherwise in
       let a = and_parts (is_line line) (test && (first && second)) is in
       let b = and_parts test (first && second) a.1 in
       let c = and_parts first second b.1 in
@@ -215,8 +215,8 @@ mutual
       (step_does l labels otherwise behind around c.1 (omega (arith, fits)) (omega (arith, sets))
       (second_stands k condition unit otherwise line index at)
       (λ x h. among x (listed_back x (placed_in e unit chosen) (placed_in e otherwise behind) h)))
-  step_does {program} {m} {head} {valued} {k} {ons} {own} l labels (Y.Do body line) index around is fits sets at among =
-      let inner = are_steps program m.called head (list_of m) valued (labels_in body ++ labels) body in
+  step_does {program} {m} {head} {all} {valued} {k} {ons} {own} l labels (Y.Do body line) index around is fits sets at among =
+      let inner = are_steps program m.called head all valued (labels_in body ++ labels) body in
       let a = and_parts (is_line line) inner is in
       let at' = group_stands k body line index at in
       group_through 0 k (phases_of k ons) labels body line index left_over (step_act l line a.0)
@@ -224,9 +224,9 @@ mutual
       (steps_do l (labels_in body ++ labels) body (list_index line index)
       (Labels.placed_in 0 k own body (list_index line index) labels at' around) a.1 fits sets
       at' among)
-  step_does {program} {m} {head} {valued} {k} {ons} {own} l labels (Y.DoWhile condition body line) index around is fits sets at among =
-      let test = is_step_test program m.called head (list_of m) condition in
-      let inner = are_steps program m.called head (list_of m) valued (labels_in body ++ labels) body in
+  step_does {program} {m} {head} {all} {valued} {k} {ons} {own} l labels (Y.DoWhile condition body line) index around is fits sets at among =
+      let test = is_step_test program m.called head all condition in
+      let inner = are_steps program m.called head all valued (labels_in body ++ labels) body in
       let a = and_parts (is_line line) (test && inner) is in
       let b = and_parts test inner a.1 in
       let i = body_index k condition line index in
@@ -282,19 +282,19 @@ mutual
       plain_does l labels (Y.Put skip pairs line) index around is fits sets at
 
   pub steps_do :
-      {program : Y.Program} {m : Main program} {head : Y.BlockHead} {valued : Bool} {k : Block} {ons : List (OnUnit × ℕ)}
-      {own : List Label} {need sets : ℕ} → Listing m head valued k ons own need sets → (labels : List Label) (body : Y.Stmts) (index : ℕ) →
+      {program : Y.Program} {m : Main program} {head : Y.BlockHead} {all : Y.Stmts} {valued : Bool} {k : Block} {ons : List (OnUnit × ℕ)}
+      {own : List Label} {need sets : ℕ} → Listing m head all valued k ons own need sets → (labels : List Label) (body : Y.Stmts) (index : ℕ) →
       AreAround k own labels →
-      are_steps program m.called head (list_of m) valued labels body ≡ true →
+      are_steps program m.called head all valued labels body ≡ true →
       statements_need body ≤ need → statements_set body ≤ sets →
       AreStanding k body index →
       AreAmong ons (all_placed_in k.environment body index) →
       EachThrough 0 k (phases_of k ons) labels body index left_over
   steps_do l labels (Y.EndOfList own) index around is fits sets at among = tt
-  steps_do {program} {m} {head} {valued} {k} {ons} l labels (Y.StmtThen own first rest) index around is fits sets at among =
+  steps_do {program} {m} {head} {all} {valued} {k} {ons} l labels (Y.StmtThen own first rest) index around is fits sets at among =
       let e = k.environment in
-      let a = and_parts (is_step program m.called head (list_of m) valued labels first)
-      (are_steps program m.called head (list_of m) valued labels rest) is in
+      let a = and_parts (is_step program m.called head all valued labels first)
+      (are_steps program m.called head all valued labels rest) is in
       let here = index + size_of (marked e.block own) in
       let behind = here + size_of (stmt_code e none_taken first) in (
         step_does l labels first here around a.0 (omega (arith, fits)) (omega (arith, sets))

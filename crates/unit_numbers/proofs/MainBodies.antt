@@ -1,8 +1,7 @@
 -- The main procedure's list comes to its end, whatever units it has by then.
 use Rattle.std.proofs.Common.{◌≡◌, inl, inr, ℕ, zero, suc, ◌+◌, ◌^◌, ◌<◌, ◌≤◌, List, [], ◌++◌, length}
 use Rattle.std.proofs.Common.{Bool, None, true, false, refl, sym, ap, ◌∙◌, subst, arith}
-use Rattle.std.specs.Prelude.{◌&&◌, ◌==◌}
-use Rattle.std.proofs.lemmas.Bool.{eq-eqb, or_left}
+use Rattle.std.proofs.lemmas.Bool.{or_left}
 use Rattle.std.proofs.lemmas.List.Folds.{list_any-append}
 use Rattle.pli_language.specs.Keywords.{same_bytes}
 use Rattle.pli_typing.specs.TypedTree as Y
@@ -40,21 +39,26 @@ use Rattle.phase_runs.specs.Phases.{AreBegun, Phases, in_phase, phase_aims}
 use Rattle.phase_runs.specs.Units.{AreBy, Past, phases_of}
 use Rattle.phase_runs.proofs.Lists.{list_through}
 use Rattle.phase_runs.proofs.Units.{past_begun, phases_change}
-use Rattle.unit_numbers.specs.Calls.{has_jumps, is_jumped_to}
 use Rattle.unit_numbers.specs.Steps.{is_plain_step, is_step_test}
 use Rattle.unit_numbers.proofs.Bodies.{IsKnown', by_writing, each_body, known_of, plain_of, test_of}
 use Rattle.unit_numbers.proofs.Established.{InMain, in_main, list_placed, main_on, main_one, none_system, ons_placed}
 use Rattle.unit_numbers.proofs.Established.{start_of}
 use Rattle.unit_numbers.proofs.Homes.{Home, IsHome', home_block, home_is, home_told, plain_home, told_home}
-use Rattle.unit_numbers.proofs.Hosts.{InForce}
+use Rattle.unit_numbers.proofs.Hosts.{InForce, MayLand, Part}
 use Rattle.unit_numbers.proofs.Listing.{Listing, inside_of, steps_do}
-use Rattle.unit_numbers.proofs.Mains.{Alone, Main, all_ons, block_for, level_of, list_of, main_held, main_scope}
+use Rattle.unit_numbers.proofs.Mains.{Alone, Main, all_ons, block_for, level_of, list_of, main_held, main_scope, main_begun, main_layer}
 use Rattle.unit_numbers.proofs.Mains.{most_for, ons_of, placed}
-use Rattle.unit_numbers.proofs.Past.{alone_parent, main_alone, main_past}
+use Rattle.unit_numbers.proofs.Past.{alone_parent, main_alone, main_past, past_like}
 use Rattle.unit_numbers.proofs.Places.{listed_at}
 use Rattle.unit_numbers.proofs.Puts.{main_told}
 use Rattle.unit_numbers.proofs.Raises.{Knows, knows_of}
-use Rattle.unit_numbers.proofs.Scenes.{IsAt, Part, block_of, rises_home, scope_of}
+use Rattle.unit_numbers.proofs.Outer.{block_saves, made_stacks}
+use Rattle.unit_numbers.proofs.Scenes.{IsAt, block_of, scope_of}
+use Rattle.number_runs.specs.Variables.{words_in}
+use Rattle.program_places.proofs.Labels.{label_of}
+use Rattle.program_places.specs.Programs.{code_for, environment_for, links_for}
+use Rattle.pli_coding.specs.Environments.{none_taken}
+use Rattle.pli_coding.specs.Images.{linked_code}
 
 -- ---- the main procedure's block
 
@@ -62,6 +66,7 @@ abbrev main_part : {program : Y.Program} → Main program → (writes : Bool) �
 main_part m writes =
     record {
       caller = m.head;
+      all = list_of m;
       unit = false;
       writes = writes;
       valued = false;
@@ -97,16 +102,36 @@ main_nested {program} m h ih =
           ∙ ap (λ j. ancestor as' j n) (here ∙ sym newest);
     }
 
+-- a jump lands there
+main_lands :
+    MarkedOnce → {program : Y.Program} (m : Main program) (h : Home) → IsHome' m h →
+    MayLand program (home_block m h) m.head (list_of m)
+main_lands once {program} m h ih =
+    let k0 = block_for m h.input h.acts in
+    let e = environment_for program m.head in
+    let like = past_like h.past k0.first in
+    let same = made_stacks (main_layer m h.input h.acts) (words_in e) (main_begun m h.input h.acts) in
+    record {
+      registers = λ label among. block_saves program m.head m.body label among;
+      entries = like.entries ∙ same.entries;
+      edits = like.edits ∙ same.edits;
+      top = ih.ends;
+      number = refl;
+      placed = λ label among.
+          label_of (links_for program) (linked_code (code_for program)) (start_of m) e none_taken (list_of m)
+          (list_placed once m h.input h.acts) label among;
+    }
+
 -- the unit in force is one of its own
 main_force :
     MarkedOnce → {program : Y.Program} (m : Main program) (h : Home) → IsHome' m h → (d : Condition) →
-    InForce m (home_block m h) m.head d
+    InForce m (home_block m h) false m.head (list_of m) d
 main_force once {program} m h ih d = by (in_main m h.input h.acts h.past ih.known d)
   where
     one : Alone m.head.level (ons_of m) (home_block m h).first.state.activations
     one = main_alone m h.input h.acts h.past ih.known
 
-    by : InMain m h.input h.acts h.past ih.known d → InForce m (home_block m h) m.head d
+    by : InMain m h.input h.acts h.past ih.known d → InForce m (home_block m h) false m.head (list_of m) d
     by (inl system) = inl system
     by (inr n) =
         inr (inl (record {
@@ -118,10 +143,11 @@ main_force once {program} m h ih d = by (in_main m h.input h.acts h.past ih.know
             by = main_one m h.input h.acts h.past ih.known;
             forced = ap (λ xs. force xs d) one.is ∙ n.is;
           };
+          itself = refl;
           level = refl;
-          outermost = λ outer. refl;
           own = refl;
           parent = sym (ap (λ j. parent_at (home_block m h) j) (level_of m) ∙ main_oldest m h ih);
+          lands = λ jumps. main_lands once m h ih;
         }))
 
 main_at :
@@ -147,7 +173,7 @@ main_at once {program} m h ih writes =
       arrays = ih.arrays;
       narrows = ih.narrows;
       forced = λ d. main_force once m h ih d;
-      settled = λ jumped d none. none_system m h.input h.acts h.past ih.known d none;
+      settled = λ jumped outer d none. none_system m h.input h.acts h.past ih.known d none;
       oldest = main_oldest m h ih;
       idle = ih.begun.resumes.idle;
       code = subst (λ as'. oncode_of as' < 2 ^ 16) (sym one.is) (omega arith);
@@ -183,13 +209,6 @@ main_home once {program} m h ih writes =
 
 -- ---- its statements
 
--- units jump to the labels of its own list
-main_jumped :
-    {program : Y.Program} (m : Main program) → has_jumps (list_of m) ≡ true →
-    is_jumped_to m.head false (list_of m) ≡ true
-main_jumped m jumps =
-    ap (λ q. (m.head.level == 0) && q) jumps ∙ ap (λ q. q && true) (eq-eqb m.head.level 0 (level_of m))
-
 main_knows :
     MarkedOnce → {program : Y.Program} (m : Main program) (h : Home) → IsHome' m h → (more : ℕ) → h.acts ≡ suc more →
     (writes : Bool) →
@@ -198,9 +217,7 @@ main_knows once m h ih more same writes =
     knows_of once m h ih more most_activations (main_part m writes) (main_outer m h) []
     (subst (λ n. IsAt m h n most_activations (main_part m writes) (main_outer m h) []) same
     (main_at once m h ih writes))
-    (λ unit. absurd (cc unit))
-    (λ free jumps. absurd (cc (sym (main_jumped m jumps) ∙ free))) (each_body once m more) (labels_in (list_of m))
-    (rises_home m h)
+    (λ unit. absurd (cc unit)) (each_body once m more) (labels_in (list_of m)) (λ unit jumps label e. e)
 
 -- with units that it has by then
 main_known :
@@ -261,7 +278,7 @@ main_tests once m input (suc more) small b past known labels line includes condi
 main_listing :
     MarkedOnce → {program : Y.Program} (m : Main program) (input : List ℕ) (acts : ℕ) → acts + 1 < 2 ^ 64 →
     IsBegun (block_for m input acts) →
-    Listing m m.head false (block_for m input acts) (ons_of m) (labels_in (list_of m)) (statements_need (list_of m))
+    Listing m m.head (list_of m) false (block_for m input acts) (ons_of m) (labels_in (list_of m)) (statements_need (list_of m))
     (statements_set (list_of m))
 main_listing once {program} m input acts small b =
     let some = b.acts in

@@ -76,7 +76,7 @@ pub record Main (program : Y.Program) : Type 0 where
   pub apart : are_apart (all_units_in body ++ called_units program called) ≡ true
   pub fits : statements_need body ≤ held_registers
   pub waiting : statements_set body ≤ most_waiting
-  pub calls : are_called program body called called ≡ true
+  pub calls : are_called program called called ≡ true
 
 -- its list
 abbrev pub list_of : {program : Y.Program} → Main program → Y.Stmts
@@ -114,11 +114,11 @@ main_is program [] e plain load memory h = absurd (cc h)
 main_is program (p ∷ ps) e plain load memory h =
     let head = head_of p.block in
     let body = body_of p.block in
-    let called = called_ones program body in
+    let called = called_ones program in
     let inner = is_unit_body program called head body in
     let fits = nat_le (statements_need body) held_registers in
     let waiting = nat_le (statements_set body) most_waiting in
-    let all = are_called program body called called in
+    let all = are_called program called called in
     let a = and_parts (has_none p.parameters) (has_result false p.result && inner) h in
     let b = and_parts (has_result false p.result) inner a.1 in
     let apart = are_apart (all_units_in body ++ called_units program called) in

@@ -48,8 +48,9 @@ use Rattle.unit_numbers.specs.Calls.{scope_in}
 use Rattle.unit_numbers.proofs.Callees.{Called, called_block, callee_of}
 use Rattle.unit_numbers.proofs.Homes.{Home, world_of}
 use Rattle.unit_numbers.proofs.Inner.{Inner, inner_set}
-use Rattle.unit_numbers.proofs.Mains.{Main, list_of}
-use Rattle.unit_numbers.proofs.Scenes.{IsAt, Part, block_of}
+use Rattle.unit_numbers.proofs.Mains.{Main}
+use Rattle.unit_numbers.proofs.Hosts.{Part}
+use Rattle.unit_numbers.proofs.Scenes.{IsAt, block_of}
 use Rattle.scalar_runs.specs.Scalars.{IsScalar}
 use Rattle.number_runs.specs.Narrow.{is_narrow_if, type_if}
 use Rattle.number_runs.proofs.Narrow.{outer_narrow}
@@ -86,7 +87,7 @@ bare_block {program} m h valued more a =
 abbrev pub called_scope :
     {program : Y.Program} → (m : Main program) → {caller : Y.BlockHead} → {valued : Bool} → {level number : ℕ} →
     Inner m caller valued level number → Scope
-called_scope {program} m i = scope_in program m.called (list_of m) i.head false false
+called_scope {program} m i = scope_in program m.called i.body i.head false false
 
 -- ---- its words
 

@@ -14,9 +14,9 @@ use Rattle.pli_meaning.specs.Executing.{entered, labels_in}
 use Rattle.pli_meaning.specs.Raising.{Around}
 use Rattle.pli_meaning.specs.StorageState.{Activation, BlockUnit, ancestor, force, height_of}
 use Rattle.pli_meaning.specs.StorageState.{most_activations, newest_height, oncode_of}
-use Rattle.pli_coding.specs.Environments.{block_around, none_taken}
+use Rattle.pli_coding.specs.Environments.{none_taken}
 use Rattle.pli_coding.specs.Images.{linked_code}
-use Rattle.pli_coding.specs.Statements.{unit_environment, unit_takes}
+use Rattle.pli_coding.specs.Statements.{unit_takes}
 use Rattle.code_marks.specs.CodeMarks.{MarkedOnce}
 use Rattle.activation_relation.specs.Chains.{AreActive, HasParent}
 use Rattle.activation_relation.specs.Frames.{lower_end, upper_top}
@@ -26,7 +26,6 @@ use Rattle.program_places.specs.Inner.{standing_for}
 use Rattle.program_places.specs.Programs.{code_for, environment_for, links_for}
 use Rattle.program_places.proofs.Inner.{unit_list_placed, unit_placed}
 use Rattle.program_places.proofs.Labels.{are_marked}
-use Rattle.program_places.proofs.Outermost.{outermost_block}
 use Rattle.program_places.proofs.Procedures.{raise_routines}
 use Rattle.program_runs.specs.Starts.{image_parts}
 use Rattle.program_runs.specs.Statements.{Block, IsBegun, Outer, as_outer}
@@ -56,13 +55,13 @@ use Rattle.nested_calls.specs.Nested.{parent_at}
 use Rattle.nested_calls.proofs.NestedVariables.{Over, over_known, over_nested, over_number, same_ancestor}
 use Rattle.called_units.specs.Hosts.{IsHosted}
 use Rattle.called_units.proofs.Hosts.{ancestor_dropped, hosts_known}
-use Rattle.unit_numbers.specs.Calls.{scope_in}
+use Rattle.unit_numbers.specs.Calls.{has_jumps, scope_in}
 use Rattle.unit_numbers.proofs.Established.{all_apart}
 use Rattle.unit_numbers.proofs.Homes.{Home, IsHome', world_of}
-use Rattle.unit_numbers.proofs.Hosts.{HasNames, IsNext, Lower, Newest, Own, force_next, host_scope, in_force_below}
-use Rattle.unit_numbers.proofs.Mains.{Main, all_ons, level_of, list_of, main_scope, most_for, placed}
+use Rattle.unit_numbers.proofs.Hosts.{HasNames, IsNext, Lower, Newest, Own, Part, force_next, host_scope, in_force_below}
+use Rattle.unit_numbers.proofs.Mains.{Main, all_ons, main_scope, most_for}
 use Rattle.unit_numbers.proofs.Places.{listed_at, one_place}
-use Rattle.unit_numbers.proofs.Scenes.{IsAt, IsEntered, IsInside, Part, block_of, may_host}
+use Rattle.unit_numbers.proofs.Scenes.{Carries, IsAt, IsEntered, IsInside, block_of, may_host}
 use Rattle.unit_numbers.proofs.Takes.{unit_taken}
 use Rattle.unit_numbers.proofs.Units.{Unit', unit_is}
 
@@ -78,14 +77,14 @@ unit_at program head more x index =
 
 -- what its temporaries and its loops take
 pub taken_by :
-    {program : Y.Program} (m : Main program) (head : Y.BlockHead) (x : OnUnit) →
-    Unit' program m.called head (list_of m) x →
+    {program : Y.Program} (m : Main program) (head : Y.BlockHead) (all : Y.Stmts) (x : OnUnit) →
+    Unit' program m.called head all x →
     Sets (statements_need x.body) (statements_set x.body) none_taken (unit_takes program x.head x.head.kind x.body)
-taken_by {program} m head x u =
+taken_by {program} m head all x u =
     let s = main_scope m false in
     let plain = block_plain program.variables x.head.number m.plain in
     unit_taken s program x.head x.head.kind (statements_need x.body) (statements_set x.body) x.body plain.plain
-    (statements_taken 0 (scope_in program m.called (list_of m) head true u.fit.writes) false (labels_in x.body ++ [])
+    (statements_taken 0 (scope_in program m.called all head true u.fit.writes) false (labels_in x.body ++ [])
     x.body u.fit.statements u.fit.fits)
 
 -- ---- the unit in force, and the block that established it
@@ -95,10 +94,24 @@ abbrev pub raise_setting :
 raise_setting {program} m h o os words labels line =
     setting_around words (block_of m h o os) labels line (most_for program)
 
+abbrev pub part_of :
+    {program : Y.Program} → (m : Main program) → (head : Y.BlockHead) → (all : Y.Stmts) → (more : ℕ) → (x : OnUnit) →
+    (index : ℕ) → Unit' program m.called head all x → Part
+part_of {program} m head all more x index u =
+    record {
+      caller = head;
+      all = all;
+      unit = true;
+      writes = u.fit.writes;
+      valued = false;
+      body = x.body;
+      index = list_index (unit_at program head more x index);
+    }
+
 -- what is raised, and where
 pub record Case {program : Y.Program} (m : Main program) (h : Home) (more b : ℕ) (c : Part) (o : Outer)
-    (os : List Outer) (words : ℕ) (labels : List Label) (line : ℕ) {head : Y.BlockHead} {condition : Condition}
-    (n : Newest m (block_of m h o os) head condition)
+    (os : List Outer) (words : ℕ) (labels : List Label) (line : ℕ) {head : Y.BlockHead} {all : Y.Stmts}
+    {condition : Condition} (n : Newest m (block_of m h o os) head all condition)
     (e : IsRaised (raise_setting m h o os words labels line) (unit_at program head more n.unit n.index) more)
     (r : Raise) : Type 0
   where
@@ -106,6 +119,7 @@ pub record Case {program : Y.Program} (m : Main program) (h : Home) (more b : �
     pub at : IsAt m h (suc more) (suc b) c o os
     pub by : e.by ≡ n.by
     pub few : nat_lt (length o.first.state.activations) most_activations ≡ true
+    pub carries : Carries c labels
     pub is : IsRaiseOf (raise_setting m h o os words labels line) (unit_at program head more n.unit n.index) more e r
     pub made : AreMade (raise_setting m h o os words labels line) (unit_at program head more n.unit n.index) r
     pub begun :
@@ -116,8 +130,8 @@ pub record Source {program : Y.Program} (m : Main program) (h : Home) (more b : 
     (os : List Outer) (condition : Condition) : Type 0
   where
     pub head : Y.BlockHead
-    pub newest : Newest m (block_of m h o os) head condition
-    pub outermost : head.level ≡ 0 → head ≡ m.head
+    pub all : Y.Stmts
+    pub newest : Newest m (block_of m h o os) head all condition
     pub parent : HasParent (suc head.level) newest.by.height o.first.state.activations
     pub names :
         (words : ℕ) (labels : List Label) (line : ℕ)
@@ -125,6 +139,17 @@ pub record Source {program : Y.Program} (m : Main program) (h : Home) (more b : 
         more) (r : Raise) → Case m h more b c o os words labels line newest e r →
         HasNames m head
         (unit_block (raise_setting m h o os words labels line) (unit_at program head more newest.unit newest.index) r)
+    -- and if units of its list jump, that is further out
+    pub inside :
+        (words : ℕ) (labels : List Label) (line : ℕ)
+        (e : IsRaised (raise_setting m h o os words labels line) (unit_at program head more newest.unit newest.index)
+        more) (r : Raise) → Case m h more b c o os words labels line newest e r → has_jumps all ≡ true →
+        IsInside m h
+        (part_of m head all more newest.unit newest.index
+        (unit_is program m.called head all newest.unit newest.on.is))
+        (as_outer
+        (unit_block (raise_setting m h o os words labels line) (unit_at program head more newest.unit newest.index) r)
+        []) (as_outer (block_of m h o os) labels ∷ os)
 
 -- ---- the block itself established it
 
@@ -162,7 +187,7 @@ low_narrow {program} m head x is =
 own_over :
     {program : Y.Program} {m : Main program} {h : Home} {more b : ℕ} {c : Part} {o : Outer} {os : List Outer}
     {words : ℕ} {labels : List Label} {line : ℕ} {condition : Condition}
-    (n : Own m (block_of m h o os) c.caller condition)
+    (n : Own m (block_of m h o os) c.unit c.caller c.all condition)
     {e : IsRaised (raise_setting m h o os words labels line)
     (unit_at program c.caller more n.newest.unit n.newest.index) more} {r : Raise} →
     Case m h more b c o os words labels line n.newest e r →
@@ -177,7 +202,7 @@ own_over {program} {m} {h} {more} {b} {c} {o} {os} {words} {labels} {line} n {e}
     let p = r.point in
     let φ = resumed made.changed (unit_layer w y r) in
     let a = with_units made.own made.activation in
-    let level = (unit_is program m.called c.caller (list_of m) n.newest.unit n.newest.on.is).level in
+    let level = (unit_is program m.called c.caller c.all n.newest.unit n.newest.on.is).level in
     let few = q.at.nested.few in
     let inside = n.level in
     let most = e.level in
@@ -204,7 +229,7 @@ own_over {program} {m} {h} {more} {b} {c} {o} {os} {words} {labels} {line} n {e}
 own_names :
     {program : Y.Program} {m : Main program} {h : Home} {more b : ℕ} {c : Part} {o : Outer} {os : List Outer}
     {words : ℕ} {labels : List Label} {line : ℕ} {condition : Condition}
-    (n : Own m (block_of m h o os) c.caller condition)
+    (n : Own m (block_of m h o os) c.unit c.caller c.all condition)
     {e : IsRaised (raise_setting m h o os words labels line)
     (unit_at program c.caller more n.newest.unit n.newest.index) more} {r : Raise} →
     Case m h more b c o os words labels line n.newest e r →
@@ -236,9 +261,45 @@ own_names {program} {m} {h} {more} {b} {c} {o} {os} {words} {labels} {line} n {e
           (low_narrow m c.caller x is) (sym a.source) (sym a.parts) known) (a.narrows x is);
     }
 
+-- further out is that block
+own_inside :
+    {program : Y.Program} {m : Main program} {h : Home} {more b : ℕ} {c : Part} {o : Outer} {os : List Outer}
+    {words : ℕ} {labels : List Label} {line : ℕ} {condition : Condition}
+    (n : Own m (block_of m h o os) c.unit c.caller c.all condition)
+    {e : IsRaised (raise_setting m h o os words labels line)
+    (unit_at program c.caller more n.newest.unit n.newest.index) more} {r : Raise} →
+    Case m h more b c o os words labels line n.newest e r → has_jumps c.all ≡ true →
+    IsInside m h
+    (part_of m c.caller c.all more n.newest.unit n.newest.index
+    (unit_is program m.called c.caller c.all n.newest.unit n.newest.on.is))
+    (as_outer
+    (unit_block (raise_setting m h o os words labels line)
+    (unit_at program c.caller more n.newest.unit n.newest.index) r) []) (as_outer (block_of m h o os) labels ∷ os)
+own_inside {program} {m} {h} {more} {b} {c} {o} {os} {words} {labels} {line} n {e} {r} q jumps =
+    let k = block_of m h o os in
+    let u = unit_block (raise_setting m h o os words labels line)
+    (unit_at program c.caller more n.newest.unit n.newest.index) r in
+    let f = unit_is program m.called c.caller c.all n.newest.unit n.newest.on.is in
+    let a = q.at in
+    record {
+      block = k;
+      lands = n.lands jumps;
+      carried = record {
+        behind = 0;
+        labels = labels;
+        rest = os;
+        there = refl;
+        includes = q.carries n.itself jumps;
+      };
+      found = ap height_of (same_ancestor {k = k} {inner = u} c.caller.level (own_over n q) a.nested q.is.among a.inside
+          (omega arith)) ∙ sym n.parent ∙ n.own;
+      level = f.level;
+      around = f.around;
+    }
+
 own_source :
     {program : Y.Program} {m : Main program} {h : Home} {more b : ℕ} {c : Part} {o : Outer} {os : List Outer}
-    {condition : Condition} → IsAt m h (suc more) (suc b) c o os → Own m (block_of m h o os) c.caller condition →
+    {condition : Condition} → IsAt m h (suc more) (suc b) c o os → Own m (block_of m h o os) c.unit c.caller c.all condition →
     Source m h more b c o os condition
 own_source {m = m} {h} {c = c} {o} {os} a n =
     let k = block_of m h o os in
@@ -248,14 +309,15 @@ own_source {m = m} {h} {c = c} {o} {os} a n =
     let some = a.nested.some c.caller.level a.inside in
     record {
       head = c.caller;
+      all = c.all;
       newest = n.newest;
-      outermost = n.outermost;
       parent = (
         omega (arith, parent, some),
         ap (λ j. height_of (ancestor o.first.state.activations j c.caller.level)) n.parent
             ∙ ap height_of (a.nested.same c.caller.level c.caller.level (omega arith) a.inside) ∙ sym n.parent,
       );
       names = λ words labels line e r q. own_names n q;
+      inside = λ words labels line e r q jumps. own_inside n q jumps;
     }
 
 -- ---- a block below established it
@@ -305,7 +367,7 @@ lower_names {program} {m} {h} {more} {b} {c} {o} {os} {words} {labels} {line} n 
     let x = unit_at program g.head more n.newest.unit n.newest.index in
     let z = hosted n q in
     let s = host_scope m g.head in
-    let level = (unit_is program m.called g.head (list_of m) n.newest.unit n.newest.on.is).level in
+    let level = (unit_is program m.called g.head g.all n.newest.unit n.newest.on.is).level in
     let own = n.is.level in
     let count = suc g.count in
     record {
@@ -325,6 +387,43 @@ lower_names {program} {m} {h} {more} {b} {c} {o} {os} {words} {labels} {line} n 
           let low = low_narrow m g.head spot is in
           hosts_known.scalar k x more e r g.block g.point g.numbers count spot (type_known s spot) z
           (omega (arith, low, level)) (n.is.names.narrows spot is);
+    }
+
+-- further out is that block
+lower_inside :
+    {program : Y.Program} {m : Main program} {h : Home} {more b : ℕ} {c : Part} {o : Outer} {os : List Outer}
+    {words : ℕ} {labels : List Label} {line : ℕ} {condition : Condition}
+    (n : Lower m (block_of m h o os) condition)
+    {e : IsRaised (raise_setting m h o os words labels line)
+    (unit_at program n.host.head more n.newest.unit n.newest.index) more} {r : Raise} →
+    Case m h more b c o os words labels line n.newest e r → has_jumps n.host.all ≡ true →
+    IsInside m h
+    (part_of m n.host.head n.host.all more n.newest.unit n.newest.index
+    (unit_is program m.called n.host.head n.host.all n.newest.unit n.newest.on.is))
+    (as_outer
+    (unit_block (raise_setting m h o os words labels line)
+    (unit_at program n.host.head more n.newest.unit n.newest.index) r) []) (as_outer (block_of m h o os) labels ∷ os)
+lower_inside {program} {m} {h} {more} {b} {c} {o} {os} {words} {labels} {line} n {e} {r} q jumps =
+    let g = n.host in
+    let k = raise_setting m h o os words labels line in
+    let x = unit_at program g.head more n.newest.unit n.newest.index in
+    let f = unit_is program m.called g.head g.all n.newest.unit n.newest.on.is in
+    let level = f.level in
+    let i = n.over.carried jumps in
+    record {
+      block = g.block;
+      lands = n.is.lands jumps;
+      carried = record {
+        behind = suc i.behind;
+        labels = i.labels;
+        rest = i.rest;
+        there = i.there;
+        includes = i.includes;
+      };
+      found = hosts_known.parent k x more e r g.block g.point g.numbers (suc g.count) g.head.level (hosted n q)
+          (omega (arith, level)) ∙ sym n.parent ∙ n.own;
+      level = f.level;
+      around = f.around;
     }
 
 -- its activation is where it was
@@ -360,16 +459,17 @@ lower_source :
 lower_source a n =
     record {
       head = n.host.head;
+      all = n.host.all;
       newest = n.newest;
-      outermost = n.is.outermost;
       parent = lower_parent a.begun n;
       names = λ words labels line e r q. lower_names n q;
+      inside = λ words labels line e r q jumps. lower_inside n q jumps;
     }
 
 pub source_of :
     {program : Y.Program} {m : Main program} {h : Home} {more b : ℕ} {c : Part} {o : Outer} {os : List Outer}
     {condition : Condition} → IsAt m h (suc more) (suc b) c o os →
-    Own m (block_of m h o os) c.caller condition ⊎ Lower m (block_of m h o os) condition →
+    Own m (block_of m h o os) c.unit c.caller c.all condition ⊎ Lower m (block_of m h o os) condition →
     Source m h more b c o os condition
 source_of a (inl n) = own_source a n
 source_of a (inr n) = lower_source a n
@@ -394,8 +494,8 @@ unit_raised once {program} m h ih more b c o os a words labels line {condition} 
     let index = n.index in
     let around = around_for program more in
     let y = unit_at program z.head more x index in
-    let u = unit_is program m.called z.head (list_of m) x n.on.is in
-    let set = (taken_by m z.head x u).words in
+    let u = unit_is program m.called z.head z.all x n.on.is in
+    let set = (taken_by m z.head z.all x u).words in
     let waiting = u.fit.waiting in
     let level = u.level in
     let free = a.free in
@@ -443,19 +543,6 @@ unit_raised once {program} m h ih more b c o os a words labels line {condition} 
 
 -- ---- its block
 
-abbrev pub part_of :
-    {program : Y.Program} → (m : Main program) → (head : Y.BlockHead) → (more : ℕ) → (x : OnUnit) → (index : ℕ) →
-    Unit' program m.called head (list_of m) x → Part
-part_of {program} m head more x index u =
-    record {
-      caller = head;
-      unit = true;
-      writes = u.fit.writes;
-      valued = false;
-      body = x.body;
-      index = list_index (unit_at program head more x index);
-    }
-
 -- ONCODE is the code for which it runs
 code_less : (n further : ℕ) → 0 < n → n < 2 ^ 16 → cond (n == 0) further n < 2 ^ 16
 code_less n further some less =
@@ -497,7 +584,7 @@ unit_next :
     Case m h more b c o os words labels line z.newest e r →
     IsNext (block_of m h o os)
     (unit_block (raise_setting m h o os words labels line)
-    (unit_at program z.head more z.newest.unit z.newest.index) r) r.numbers r.point
+    (unit_at program z.head more z.newest.unit z.newest.index) r) r.numbers r.point labels
 unit_next m z {r = r} q =
     record {
       among = q.is.among;
@@ -507,32 +594,7 @@ unit_next m z {r = r} q =
       layers = q.made.layers;
       forced = λ d. refl;
       remains = q.begun.remains;
-    }
-
--- where the main procedure established it, that is the block around it
-unit_inside :
-    {program : Y.Program} (m : Main program) {h : Home} {more b : ℕ} {c : Part} {o : Outer} {os : List Outer}
-    {words : ℕ} {labels : List Label} {line : ℕ} {condition : Condition} (z : Source m h more b c o os condition)
-    {e : IsRaised (raise_setting m h o os words labels line)
-    (unit_at program z.head more z.newest.unit z.newest.index) more} {r : Raise} →
-    Case m h more b c o os words labels line z.newest e r → z.head.level ≡ 0 →
-    IsInside m
-    (part_of m z.head more z.newest.unit z.newest.index
-    (unit_is program m.called z.head (list_of m) z.newest.unit z.newest.on.is))
-    (as_outer
-    (unit_block (raise_setting m h o os words labels line)
-    (unit_at program z.head more z.newest.unit z.newest.index) r) [])
-unit_inside {program} m z q outer =
-    let x = z.newest.unit in
-    let f = unit_is program m.called z.head (list_of m) x z.newest.on.is in
-    let same = z.outermost outer in
-    let e = unit_environment x.head (environment_for program z.head) in
-    record {
-      caller = same;
-      level = f.level ∙ ap suc outer;
-      block = ap (λ j. block_around e j) (level_of m)
-          ∙ outermost_block program (placed m) e m.loadable.well_formed m.main refl
-          (subst (λ (x' : Y.BlockHead). x'.number ≤ x.head.number) same f.later);
+      outers = refl;
     }
 
 pub unit_entered :
@@ -542,8 +604,8 @@ pub unit_entered :
     (unit_at program z.head more z.newest.unit z.newest.index) more} {r : Raise} →
     Case m h more b c o os words labels line z.newest e r →
     IsEntered m h more b
-    (part_of m z.head more z.newest.unit z.newest.index
-    (unit_is program m.called z.head (list_of m) z.newest.unit z.newest.on.is))
+    (part_of m z.head z.all more z.newest.unit z.newest.index
+    (unit_is program m.called z.head z.all z.newest.unit z.newest.on.is))
     (as_outer
     (unit_block (raise_setting m h o os words labels line)
     (unit_at program z.head more z.newest.unit z.newest.index) r) [])
@@ -555,7 +617,7 @@ unit_entered {program} m {h} {more} {b} {c} {o} {os} {words} {labels} {line} z {
     let x = n.unit in
     let y = unit_at program z.head more x n.index in
     let u = unit_block (raise_setting m h o os words labels line) y r in
-    let f = unit_is program m.called z.head (list_of m) x n.on.is in
+    let f = unit_is program m.called z.head z.all x n.on.is in
     let a = q.at in
     let made = q.made in
     let names = z.names words labels line e r q in
@@ -566,8 +628,8 @@ unit_entered {program} m {h} {more} {b} {c} {o} {os} {words} {labels} {line} z {
     let level = f.level in
     let most = n.on.level in
     let waiting = f.fit.waiting in
-    let set = (taken_by m z.head x f).words in
-    let registers = (taken_by m z.head x f).registers in
+    let set = (taken_by m z.head z.all x f).words in
+    let registers = (taken_by m z.head z.all x f).registers in
     let fits = f.fit.fits in
     let free = free_among (suc b) a.begun among a.free in
     let even = free.even in
@@ -594,7 +656,7 @@ unit_entered {program} m {h} {more} {b} {c} {o} {os} {words} {labels} {line} z {
         variables = names.variables;
         arrays = names.arrays;
         narrows = names.narrows;
-        forced = λ d. in_force_below (force_next (unit_next m z q) (may_host a) d (a.forced d));
+        forced = λ d. in_force_below (force_next (unit_next m z q) (may_host a) q.carries d (a.forced d));
         settled = λ jumped. absurd (cc jumped);
         oldest = names.oldest;
         idle = made.idle;
@@ -622,6 +684,6 @@ unit_entered {program} m {h} {more} {b} {c} {o} {os} {words} {labels} {line} z {
       };
       words = omega (arith, set);
       clear = λ j. refl;
-      inner = λ unit outer. unit_inside m z q outer;
+      inner = λ unit jumps. z.inside words labels line e r q jumps;
       visited = λ no. absurd (cc no);
     }

@@ -2,7 +2,7 @@
 -- block below, and so do its calls, its jumps out and what it writes.
 use Rattle.std.proofs.Common.{◌≡◌, ◌⊎◌, inl, inr, ℕ, zero, suc, ◌+◌, ◌^◌, ◌<◌, List, [], ◌∷◌, length}
 use Rattle.std.proofs.Common.{Bool, true, false, refl, sym, ap, ◌∙◌, subst, arith}
-use Rattle.std.specs.Prelude.{◌&&◌, ◌==◌, nat_lt, not}
+use Rattle.std.specs.Prelude.{◌&&◌, ◌||◌, ◌==◌, nat_lt, not}
 use Rattle.std.proofs.lemmas.Bool.{and_parts, eqb-true}
 use Rattle.pli_language.specs.declared.condition.Condition.{Condition}
 use Rattle.pli_language.specs.declared.condition.Condition.TheVariants as C
@@ -20,8 +20,7 @@ use Rattle.activation_relation.specs.Frames.{frame_under}
 use Rattle.activation_relation.specs.ServiceLaws.{IsSystem}
 use Rattle.run_steps.specs.Items.{Linked}
 use Rattle.begin_runs.proofs.FarGotos.{far_does}
-use Rattle.program_places.specs.Programs.{body_for, code_for, environment_for, links_for}
-use Rattle.program_places.proofs.Labels.{label_of}
+use Rattle.program_places.specs.Programs.{code_for, environment_for, links_for}
 use Rattle.program_places.proofs.Procedures.{raise_routines}
 use Rattle.program_runs.specs.Calls.{left_over}
 use Rattle.program_runs.specs.Starts.{image_parts}
@@ -37,7 +36,6 @@ use Rattle.edit_runs.specs.Edits.{within}
 use Rattle.operator_runs.specs.Divisors.{ZeroDivideComes}
 use Rattle.number_runs.specs.Knowledge.{Includes, KnowsCalls, KnowsJumps, KnowsPuts, KnowsRaises, KnowsSignals}
 use Rattle.number_runs.specs.Numbers.{Scope}
-use Rattle.number_runs.specs.Variables.{words_in}
 use Rattle.number_headlines.proofs.Puts.{error_routine, lists_known}
 use Rattle.unit_runs.specs.Raised.{IsRaised, UnitDoes, unit_block}
 use Rattle.unit_runs.specs.Signals.{IsResumed}
@@ -45,21 +43,17 @@ use Rattle.unit_runs.proofs.DeepRaises.{deep_overflow_ends, deep_raise_ends}
 use Rattle.unit_runs.proofs.UnitRuns.{RaisesTo, overflow_returns, raise_returns}
 use Rattle.unit_runs.proofs.UnitVariables.{none_made}
 use Rattle.phase_runs.proofs.Signals.{codes_are, signal_by}
-use Rattle.nested_calls.specs.Nested.{parent_at}
 use Rattle.unit_numbers.specs.Calls.{has_jumps, has_unit, is_jumped_to}
 use Rattle.unit_numbers.proofs.Calls.{calls_of}
 use Rattle.unit_numbers.proofs.Divides.{deep_divide_ends, divide_returns}
-use Rattle.unit_numbers.proofs.Established.{list_placed}
-use Rattle.unit_numbers.proofs.Homes.{Home, IsHome', home_block}
-use Rattle.unit_numbers.proofs.Hosts.{InForce}
-use Rattle.unit_numbers.proofs.Mains.{Main, block_for, level_of, list_of, main_begun, main_layer, most_for}
-use Rattle.unit_numbers.proofs.Outer.{main_saves, made_stacks}
-use Rattle.unit_numbers.proofs.Past.{past_like}
+use Rattle.unit_numbers.proofs.Homes.{Home, IsHome'}
+use Rattle.unit_numbers.proofs.Hosts.{InForce, Part}
+use Rattle.unit_numbers.proofs.Mains.{Main, most_for}
 use Rattle.unit_numbers.proofs.Puts.{settled_writes}
 use Rattle.unit_numbers.proofs.Raised.{Case, Source, part_of, raise_setting, source_of, unit_at, unit_entered}
 use Rattle.unit_numbers.proofs.Raised.{unit_raised}
-use Rattle.unit_numbers.proofs.Scenes.{EachBody, IsAbove, IsAt, IsInside, Part, Rises, at_placed, at_waited}
-use Rattle.unit_numbers.proofs.Scenes.{block_of, placed_outer, rises_above, scope_of, waited_outer}
+use Rattle.unit_numbers.proofs.Scenes.{Carries, EachBody, IsAt, IsInside, IsStill, at_placed, at_waited, block_of}
+use Rattle.unit_numbers.proofs.Scenes.{carries_more, placed_outer, scope_of, waited_outer}
 use Rattle.unit_numbers.proofs.Routines.{error_routines}
 use Rattle.unit_numbers.proofs.Units.{none_coded, unit_is}
 
@@ -73,19 +67,19 @@ by_decision false one other = other refl
 unit_does :
     {program : Y.Program} (m : Main program) (h : Home) → IsHome' m h → (more b : ℕ) (c : Part) (o : Outer)
     (os : List Outer) → IsAt m h (suc more) (suc b) c o os → EachBody m more → (own : List Label) →
-    Rises m h (block_of m h o os) own → (words : ℕ) (labels : List Label) → Includes own labels → (line : ℕ)
+    Carries c own → (words : ℕ) (labels : List Label) → Includes own labels → (line : ℕ)
     {condition : Condition} (z : Source m h more b c o os condition)
     (e : IsRaised (raise_setting m h o os words labels line)
     (unit_at program z.head more z.newest.unit z.newest.index) more) →
     e.by ≡ z.newest.by → nat_lt (length o.first.state.activations) most_activations ≡ true →
     UnitDoes (raise_setting m h o os words labels line) (unit_at program z.head more z.newest.unit z.newest.index) more
     e
-unit_does {program} m h ih more b c o os a each own rises words labels includes line z e by few r is =
+unit_does {program} m h ih more b c o os a each own carries words labels includes line z e by few r is =
     let k = raise_setting m h o os words labels line in
     let n = z.newest in
     let y = unit_at program z.head more n.unit n.index in
     let x = n.unit in
-    let u = unit_is program m.called z.head (list_of m) x n.on.is in
+    let u = unit_is program m.called z.head z.all x n.on.is in
     let made = none_made k y r
     (record {
       kind = u.bare;
@@ -100,13 +94,13 @@ unit_does {program} m h ih more b c o os a each own rises words labels includes 
             at = a;
             by = by;
             few = few;
+            carries = carries_more c own labels carries includes;
             is = is;
             made = made;
             begun = b';
           } in
-          (each h b (part_of m z.head more x n.index u) (as_outer (unit_block k y r) [])
-          (as_outer (block_of m h o os) labels ∷ os)
-          ih (unit_entered m z q) (rises labels includes)).each refl,
+          (each h b (part_of m z.head z.all more x n.index u) (as_outer (unit_block k y r) [])
+          (as_outer (block_of m h o os) labels ∷ os) ih (unit_entered m z q)).each refl,
     )
 
 -- ---- the conditions
@@ -114,14 +108,14 @@ unit_does {program} m h ih more b c o os a each own rises words labels includes 
 pub error_at :
     (X : Type 0) → MarkedOnce → {program : Y.Program} (m : Main program) (h : Home) → IsHome' m h →
     (more blocks : ℕ) (c : Part) (o : Outer) (os : List Outer) → IsAt m h (suc more) blocks c o os → EachBody m more → (own : List Label) →
-    Rises m h (block_of m h o os) own → (words : ℕ) (labels : List Label) → Includes own labels → (line : ℕ)
+    Carries c own → (words : ℕ) (labels : List Label) → Includes own labels → (line : ℕ)
     (r : ErrorRoutines (links_for program) (linked_code (code_for program))) →
     ErrorGoes X (raise_setting m h o os words labels line) r
-error_at X once {program} m h ih more blocks c o os a each own rises words labels includes line r =
+error_at X once {program} m h ih more blocks c o os a each own carries words labels includes line r =
     by blocks a (a.forced C.Error)
   where
     by :
-        (blocks' : ℕ) → IsAt m h (suc more) blocks' c o os → InForce m (block_of m h o os) c.caller C.Error →
+        (blocks' : ℕ) → IsAt m h (suc more) blocks' c o os → InForce m (block_of m h o os) c.unit c.caller c.all C.Error →
         ErrorGoes X (raise_setting m h o os words labels line) r
     by blocks' a' (inl system) =
         let inside = r.routines.linked.inside in
@@ -136,7 +130,7 @@ error_at X once {program} m h ih more blocks c o os a each own rises words label
         (λ few.
         let e = unit_raised once m h ih more b c o os a' words labels line z true few in
         error_runs X k y more e.0
-        (unit_does m h ih more b c o os a' each own rises words labels includes line z e.0 e.1 few) z.newest.condition
+        (unit_does m h ih more b c o os a' each own carries words labels includes line z e.0 e.1 few) z.newest.condition
         r)
         (λ many.
         let e = unit_raised once m h ih more b c o os a' words labels line z false many in
@@ -145,17 +139,17 @@ error_at X once {program} m h ih more blocks c o os a each own rises words label
 overflow_at :
     MarkedOnce → {program : Y.Program} (m : Main program) (h : Home) → IsHome' m h → (more blocks : ℕ) (c : Part)
     (o : Outer) (os : List Outer) → IsAt m h (suc more) blocks c o os → EachBody m more → (own : List Label) →
-    Rises m h (block_of m h o os) own → (words : ℕ) (labels : List Label) → Includes own labels → (line : ℕ) →
-    InForce m (block_of m h o os) c.caller C.FixedOverflow → OverflowComes (raise_setting m h o os words labels line)
-overflow_at once {program} m h ih more blocks c o os a each own rises words labels includes line (inl system) =
+    Carries c own → (words : ℕ) (labels : List Label) → Includes own labels → (line : ℕ) →
+    InForce m (block_of m h o os) c.unit c.caller c.all C.FixedOverflow → OverflowComes (raise_setting m h o os words labels line)
+overflow_at once {program} m h ih more blocks c o os a each own carries words labels includes line (inl system) =
     let routines = error_routines once program m.loadable in
     let inside = routines.routines.linked.inside in
     overflow_without (raise_setting m h o os words labels line) routines
-    (error_at (Unit {0}) once m h ih more blocks c o os a each own rises words labels includes line routines)
+    (error_at (Unit {0}) once m h ih more blocks c o os a each own carries words labels includes line routines)
     system ih.few (omega (arith, inside))
-overflow_at once m h ih more zero c o os a each own rises words labels includes line (inr n) =
+overflow_at once m h ih more zero c o os a each own carries words labels includes line (inr n) =
     let some = a.depth.some in absurd (omega (arith, some))
-overflow_at once {program} m h ih more (suc b) c o os a each own rises words labels includes line (inr n) =
+overflow_at once {program} m h ih more (suc b) c o os a each own carries words labels includes line (inr n) =
     let k = raise_setting m h o os words labels line in
     let z = source_of a n in
     let y = unit_at program z.head more z.newest.unit z.newest.index in
@@ -163,7 +157,7 @@ overflow_at once {program} m h ih more (suc b) c o os a each own rises words lab
     (λ few.
     let e = unit_raised once m h ih more b c o os a words labels line z true few in
     overflow_returns k y more e.0
-    (unit_does m h ih more b c o os a each own rises words labels includes line z e.0 e.1 few) z.newest.condition)
+    (unit_does m h ih more b c o os a each own carries words labels includes line z e.0 e.1 few) z.newest.condition)
     (λ many.
     let e = unit_raised once m h ih more b c o os a words labels line z false many in
     deep_overflow_ends k y more e.0 z.newest.condition)
@@ -171,17 +165,17 @@ overflow_at once {program} m h ih more (suc b) c o os a each own rises words lab
 divide_at :
     MarkedOnce → {program : Y.Program} (m : Main program) (h : Home) → IsHome' m h → (more blocks : ℕ) (c : Part)
     (o : Outer) (os : List Outer) → IsAt m h (suc more) blocks c o os → EachBody m more → (own : List Label) →
-    Rises m h (block_of m h o os) own → (words : ℕ) (labels : List Label) → Includes own labels → (line : ℕ) →
-    InForce m (block_of m h o os) c.caller C.ZeroDivide → ZeroDivideComes (raise_setting m h o os words labels line)
-divide_at once {program} m h ih more blocks c o os a each own rises words labels includes line (inl system) =
+    Carries c own → (words : ℕ) (labels : List Label) → Includes own labels → (line : ℕ) →
+    InForce m (block_of m h o os) c.unit c.caller c.all C.ZeroDivide → ZeroDivideComes (raise_setting m h o os words labels line)
+divide_at once {program} m h ih more blocks c o os a each own carries words labels includes line (inl system) =
     let routines = error_routines once program m.loadable in
     let inside = routines.routines.linked.inside in
     divide_without (raise_setting m h o os words labels line) routines
-    (error_at (Unit {0}) once m h ih more blocks c o os a each own rises words labels includes line routines)
+    (error_at (Unit {0}) once m h ih more blocks c o os a each own carries words labels includes line routines)
     system ih.few (omega (arith, inside))
-divide_at once m h ih more zero c o os a each own rises words labels includes line (inr n) =
+divide_at once m h ih more zero c o os a each own carries words labels includes line (inr n) =
     let some = a.depth.some in absurd (omega (arith, some))
-divide_at once {program} m h ih more (suc b) c o os a each own rises words labels includes line (inr n) =
+divide_at once {program} m h ih more (suc b) c o os a each own carries words labels includes line (inr n) =
     let k = raise_setting m h o os words labels line in
     let z = source_of a n in
     let y = unit_at program z.head more z.newest.unit z.newest.index in
@@ -189,7 +183,7 @@ divide_at once {program} m h ih more (suc b) c o os a each own rises words label
     (λ few.
     let e = unit_raised once m h ih more b c o os a words labels line z true few in
     divide_returns k y more e.0
-    (unit_does m h ih more b c o os a each own rises words labels includes line z e.0 e.1 few) z.newest.condition)
+    (unit_does m h ih more b c o os a each own carries words labels includes line z e.0 e.1 few) z.newest.condition)
     (λ many.
     let e = unit_raised once m h ih more b c o os a words labels line z false many in
     deep_divide_ends k y more e.0 z.newest.condition)
@@ -233,10 +227,10 @@ signal_to {program} m h ih o os labels condition line index resumed z raises =
 signal_in :
     MarkedOnce → {program : Y.Program} (m : Main program) (h : Home) → IsHome' m h → (more b : ℕ) (c : Part)
     (o : Outer) (os : List Outer) → IsAt m h (suc more) (suc b) c o os → EachBody m more → (own : List Label) →
-    Rises m h (block_of m h o os) own → (labels : List Label) → Includes own labels → (line : ℕ)
+    Carries c own → (labels : List Label) → Includes own labels → (line : ℕ)
     {condition : Condition} → Source m h more b c o os condition →
     RaisesTo (raise_setting m h o os 0 labels line) condition (code_signalled condition)
-signal_in once {program} m h ih more b c o os a each own rises labels includes line {condition} z =
+signal_in once {program} m h ih more b c o os a each own carries labels includes line {condition} z =
     let k = raise_setting m h o os 0 labels line in
     let y = unit_at program z.head more z.newest.unit z.newest.index in
     let d = z.newest.unit.condition in
@@ -246,7 +240,7 @@ signal_in once {program} m h ih more b c o os a each own rises labels includes l
     let e = unit_raised once m h ih more b c o os a 0 labels line z true few in
     λ p numbers credits wanted i f among same l paid there.
     raise_returns k y more e.0
-    (unit_does m h ih more b c o os a each own rises 0 labels includes line z e.0 e.1 few) (code_signalled d)
+    (unit_does m h ih more b c o os a each own carries 0 labels includes line z e.0 e.1 few) (code_signalled d)
     (codes_are d) p numbers credits wanted i f among same l paid there)
     (λ many.
     let e = unit_raised once m h ih more b c o os a 0 labels line z false many in
@@ -256,20 +250,20 @@ signal_in once {program} m h ih more b c o os a each own rises labels includes l
 signal_at :
     MarkedOnce → {program : Y.Program} (m : Main program) (h : Home) → IsHome' m h → (more blocks : ℕ) (c : Part)
     (o : Outer) (os : List Outer) → IsAt m h (suc more) blocks c o os → EachBody m more → (own : List Label) →
-    Rises m h (block_of m h o os) own → (labels : List Label) → Includes own labels → (condition : Condition)
+    Carries c own → (labels : List Label) → Includes own labels → (condition : Condition)
     (line index : ℕ) → Signal m h o os condition line index →
     Does (block_of m h o os) labels (Y.Signal condition line) index left_over
-signal_at once {program} m h ih more blocks c o os a each own rises labels includes condition line index z =
+signal_at once {program} m h ih more blocks c o os a each own carries labels includes condition line index z =
     by (is_error condition)
   where
     routines : ErrorRoutines (links_for program) (linked_code (code_for program))
     routines = error_routines once program m.loadable
 
     goes : ErrorGoes (Unit {0}) (raise_setting m h o os 0 labels line) routines
-    goes = error_at (Unit {0}) once m h ih more blocks c o os a each own rises 0 labels includes line routines
+    goes = error_at (Unit {0}) once m h ih more blocks c o os a each own carries 0 labels includes line routines
 
     raises :
-        (blocks' : ℕ) → IsAt m h (suc more) blocks' c o os → InForce m (block_of m h o os) c.caller condition →
+        (blocks' : ℕ) → IsAt m h (suc more) blocks' c o os → InForce m (block_of m h o os) c.unit c.caller c.all condition →
         RaisesTo (raise_setting m h o os 0 labels line) condition (code_signalled condition)
     raises blocks' a' (inl system) =
         let inside = routines.routines.linked.inside in
@@ -278,7 +272,7 @@ signal_at once {program} m h ih more blocks c o os a each own rises labels inclu
         (codes_are condition)
     raises zero a' (inr n) = let some = a'.depth.some in absurd (omega (arith, some))
     raises (suc b) a' (inr n) =
-        signal_in once m h ih more b c o os a' each own rises labels includes line (source_of a' n)
+        signal_in once m h ih more b c o os a' each own carries labels includes line (source_of a' n)
 
     by : (C.Error ≡ condition) ⊎ IsResumed condition →
         Does (block_of m h o os) labels (Y.Signal condition line) index left_over
@@ -306,19 +300,19 @@ signal_at once {program} m h ih more blocks c o os a each own rises labels inclu
 raises_of :
     MarkedOnce → {program : Y.Program} (m : Main program) (h : Home) → IsHome' m h → (more blocks : ℕ) (c : Part)
     (o : Outer) (os : List Outer) → IsAt m h (suc more) blocks c o os → EachBody m more → (own : List Label) →
-    Rises m h (block_of m h o os) own → KnowsRaises (scope_of m c) (block_of m h o os) own (most_for program)
-raises_of once {program} m h ih more blocks c o os a each own rises =
+    Carries c own → KnowsRaises (scope_of m c) (block_of m h o os) own (most_for program)
+raises_of once {program} m h ih more blocks c o os a each own carries =
     record {
       overflow = λ may words set labels line includes.
-          overflow_at once m h ih more blocks c o os a each own rises words labels includes line
+          overflow_at once m h ih more blocks c o os a each own carries words labels includes line
           (a.forced C.FixedOverflow);
       divisor = λ may words set labels line includes.
-          divide_at once m h ih more blocks c o os a each own rises words labels includes line
+          divide_at once m h ih more blocks c o os a each own carries words labels includes line
           (a.forced C.ZeroDivide);
       subscript = λ may words set labels line includes.
           let routines = error_routines once program m.loadable in
           subscript_by (raise_setting m h o os words labels line) routines
-          (error_at (Unit {0}) once m h ih more blocks c o os a each own rises words labels includes line routines);
+          (error_at (Unit {0}) once m h ih more blocks c o os a each own carries words labels includes line routines);
     }
 
 -- ---- what is written
@@ -327,17 +321,17 @@ raises_of once {program} m h ih more blocks c o os a each own rises =
 held_puts :
     MarkedOnce → {program : Y.Program} (m : Main program) (h : Home) → IsHome' m h → (more blocks : ℕ) (c : Part)
     (o : Outer) (os : List Outer) → IsAt m h more blocks c o os → c.writes ≡ true →
-    not (has_unit C.Error (list_of m)) ≡ true → is_jumped_to c.caller c.unit (list_of m) ≡ true →
+    not (has_unit C.Error c.all) ≡ true → is_jumped_to c.unit c.all ≡ true → c.caller.level ≡ 0 →
     KnowsPuts (scope_of m c) (block_of m h o os) (most_for program)
-held_puts once {program} m h ih more blocks c o os a writes errors held =
+held_puts once {program} m h ih more blocks c o os a writes errors held outer =
     let routines = raise_routines once program m.loadable in
     let inside = routines.linked.inside in
     let none : (d : Condition) →
-    not (c.writes && (is_jumped_to c.caller c.unit (list_of m) && has_unit d (list_of m))) ≡ true →
+    not (c.writes && (is_jumped_to c.unit c.all && has_unit d c.all)) ≡ true →
     IsSystem (force o.first.state.activations d) = λ d may.
-    a.settled held d
-    (subst (λ q. not (q && has_unit d (list_of m)) ≡ true) held
-    (subst (λ w. not (w && (is_jumped_to c.caller c.unit (list_of m) && has_unit d (list_of m))) ≡ true) writes
+    a.settled held outer d
+    (subst (λ q. not (q && has_unit d c.all) ≡ true) held
+    (subst (λ w. not (w && (is_jumped_to c.unit c.all && has_unit d c.all)) ≡ true) writes
     may)) in
     settled_writes (scope_of m c) (block_of m h o os) (most_for program)
     (record {
@@ -346,7 +340,7 @@ held_puts once {program} m h ih more blocks c o os a writes errors held =
       place = error_routine once program m.loadable;
       overflow = none C.FixedOverflow;
       divisor = none C.ZeroDivide;
-      error = a.settled held C.Error errors;
+      error = a.settled held outer C.Error errors;
       acts = ih.few;
       few = omega (arith, inside);
       variables = a.variables;
@@ -362,28 +356,27 @@ held_puts once {program} m h ih more blocks c o os a writes errors held =
 -- what is raised there, ERROR too, comes to what it means, and no jump of a unit lands in this block
 free_puts :
     MarkedOnce → {program : Y.Program} (m : Main program) (h : Home) → IsHome' m h → (more blocks : ℕ) (c : Part)
-    (o : Outer) (os : List Outer) → IsAt m h (suc more) blocks c o os → EachBody m more →
-    (has_jumps (list_of m) ≡ true → IsAbove m h os) →
+    (o : Outer) (os : List Outer) → IsAt m h (suc more) blocks c o os → EachBody m more → IsStill c →
     KnowsPuts (scope_of m c) (block_of m h o os) (most_for program)
-free_puts once {program} m h ih more blocks c o os a each above =
+free_puts once {program} m h ih more blocks c o os a each still =
     let k = block_of m h o os in
     let routines = error_routines once program m.loadable in
+    let none : Carries c [] = λ unit jumps. absurd (still unit jumps) in
     record {
       numbers = λ words may place labels line.
           let o' = placed_outer place o in
-          let a' = at_placed a place in
-          let rises = rises_above m h (block_of m h o' os) [] above in
+          let a' = at_placed a still place in
           record {
             begun = a'.begun;
             overflow = λ raises.
-                overflow_at once m h ih more blocks c o' os a' each [] rises words [] (λ label e. e) line
+                overflow_at once m h ih more blocks c o' os a' each [] none words [] (λ label e. e) line
                 (a'.forced C.FixedOverflow);
             divisor = λ raises.
-                divide_at once m h ih more blocks c o' os a' each [] rises words [] (λ label e. e) line
+                divide_at once m h ih more blocks c o' os a' each [] none words [] (λ label e. e) line
                 (a'.forced C.ZeroDivide);
             subscript = λ raises.
                 subscript_by (raise_setting m h o' os words [] line) routines
-                (error_at (Unit {0}) once m h ih more blocks c o' os a' each [] rises words [] (λ label e. e) line
+                (error_at (Unit {0}) once m h ih more blocks c o' os a' each [] none words [] (λ label e. e) line
                 routines);
             variables = a'.variables;
             arrays = λ raises. a'.arrays;
@@ -400,54 +393,58 @@ free_puts once {program} m h ih more blocks c o os a each above =
           status_by (List ℕ) (within place (setting_around words k labels line (most_for program))) routines
           (λ entries.
           let o' = waited_outer entries (placed_outer place o) in
-          let a' = at_waited (at_placed a place) entries in
-          error_at (List ℕ) once m h ih more blocks c o' os a' each [] (rises_above m h (block_of m h o' os) [] above)
+          let a' = at_waited (at_placed a still place) still entries in
+          error_at (List ℕ) once m h ih more blocks c o' os a' each [] none
           words [] (λ label e. e) line routines);
       lists = lists_known program k m.memory a.told;
       located = λ may'. absurd (cc may');
     }
 
+silent_parts :
+    (outer errors : Bool) → not (not outer || errors) ≡ true → (outer ≡ true) × (not errors ≡ true)
+silent_parts true errors h = (refl, h)
+silent_parts false errors h = absurd (cc h)
+
+free_still : (unit jumps : Bool) → not unit && jumps ≡ false → unit ≡ false → jumps ≡ true → ⊥
+free_still unit jumps h e f = cc (sym (ap (λ q. not q && jumps) e ∙ f) ∙ h)
+
 puts_of :
     MarkedOnce → {program : Y.Program} (m : Main program) (h : Home) → IsHome' m h → (more blocks : ℕ) (c : Part)
     (o : Outer) (os : List Outer) → IsAt m h (suc more) blocks c o os → EachBody m more →
-    (is_jumped_to c.caller c.unit (list_of m) ≡ false → has_jumps (list_of m) ≡ true → IsAbove m h os) →
     (scope_of m c).puts ≡ true → KnowsPuts (scope_of m c) (block_of m h o os) (most_for program)
-puts_of once {program} m h ih more blocks c o os a each above puts =
-    let jumped = is_jumped_to c.caller c.unit (list_of m) in
-    let parts = and_parts c.writes (not (jumped && has_unit C.Error (list_of m))) puts in
+puts_of once {program} m h ih more blocks c o os a each puts =
+    let jumped = is_jumped_to c.unit c.all in
+    let outer = c.caller.level == 0 in
+    let errors = has_unit C.Error c.all in
+    let parts = and_parts c.writes (not (jumped && (not outer || errors))) puts in
     by_decision jumped
     (λ held.
-    held_puts once m h ih (suc more) blocks c o os a parts.0
-    (subst (λ q. not (q && has_unit C.Error (list_of m)) ≡ true) held parts.1) held)
-    (λ free. free_puts once m h ih more blocks c o os a each (above free))
+    let q = silent_parts outer errors (subst (λ j. not (j && (not outer || errors)) ≡ true) held parts.1) in
+    held_puts once m h ih (suc more) blocks c o os a parts.0 q.1 held (eqb-true c.caller.level 0 q.0))
+    (λ free. free_puts once m h ih more blocks c o os a each (free_still c.unit (has_jumps c.all) free))
 
 -- ---- jumps out
 
--- a GOTO of a unit comes to a label of the main procedure
+-- a GOTO of a unit comes to a label of the block that established it
 far_of :
-    MarkedOnce → {program : Y.Program} (m : Main program) (h : Home) → IsHome' m h → (more blocks : ℕ) (c : Part)
-    (o : Outer) (os : List Outer) → IsAt m h more blocks c o os → IsInside m c o → IsAbove m h os → (label : Label) →
-    is_among label (labels_in (list_of m)) ≡ true → (ls : List Label) (line index : ℕ) → line < 2 ^ 31 →
+    {program : Y.Program} (m : Main program) (h : Home) → IsHome' m h → (more blocks : ℕ) (c : Part)
+    (o : Outer) (os : List Outer) → IsAt m h more blocks c o os → IsInside m h c o os → (label : Label) →
+    is_among label (labels_in c.all) ≡ true → (ls : List Label) (line index : ℕ) → line < 2 ^ 31 →
     Linked (links_for program) (linked_code (code_for program)) index
-    (stmt_code o.environment none_taken (Y.Goto m.head.level label line)) →
-    Does (block_of m h o os) ls (Y.Goto m.head.level label line) index left_over
-far_of once {program} m h ih more blocks c o os a inner above label among ls line index less l =
-    let k0 = block_for m h.input h.acts in
-    let e = environment_for program m.head in
-    let outer = level_of m in
+    (stmt_code o.environment none_taken (Y.Goto c.caller.level label line)) →
+    Does (block_of m h o os) ls (Y.Goto c.caller.level label line) index left_over
+far_of {program} m h ih more blocks c o os a inner label among ls line index less l =
     let level = inner.level in
-    let like = past_like h.past k0.first in
-    let same = made_stacks (main_layer m h.input h.acts) (words_in e) (main_begun m h.input h.acts) in
-    let there = label_of (links_for program) (linked_code (code_for program)) (body_for program m.head m.body) e
-    none_taken (list_of m) (list_placed once m h.input h.acts) label among in
-    let layers = (home_block m h).first.control.layers in
-    let block = inner.block in
+    let own = a.nested.own in
+    let few = a.nested.few in
+    let there = inner.lands.placed label among in
+    let layers = inner.block.first.control.layers in
     far_does (block_of m h o os) ls
     (record {
-      behind = above.behind;
-      outer = as_outer (home_block m h) above.carried;
-      rest = [];
-      level = m.head.level;
+      behind = inner.carried.behind;
+      outer = as_outer inner.block inner.carried.labels;
+      rest = inner.carried.rest;
+      level = c.caller.level;
       label = label;
       at = there.at;
     })
@@ -455,44 +452,43 @@ far_of once {program} m h ih more blocks c o os a inner above label among ls lin
     (record { line_fits = less; acts = ih.few })
     (record {
       begun = a.begun;
-      there = above.there;
-      carried = above.includes label among;
+      there = inner.carried.there;
+      carried = inner.carried.includes label among;
       own = a.nested.own;
-      inner = omega (arith, outer, level);
-      few = omega (arith, level);
-      found = subst (λ j. parent_at (block_of m h o os) j ≡ 1) (sym outer) a.oldest;
-      registers = main_saves m label among;
-      entries = like.entries ∙ same.entries;
-      edits = like.edits ∙ same.edits;
-      top = ih.ends
-          ∙ ap (λ n. frame_under image_parts layers + frame_end image_parts program n m.head.level) (sym block)
+      inner = omega (arith, level);
+      few = omega (arith, own, few);
+      found = inner.found;
+      registers = inner.lands.registers label among;
+      entries = inner.lands.entries;
+      edits = inner.lands.edits;
+      top = inner.lands.top
+          ∙ ap (λ n. frame_under image_parts layers + frame_end image_parts program n c.caller.level)
+          (sym inner.around)
           ∙ ap (λ q. frame_under image_parts layers
-          + frame_end image_parts q (block_around o.environment m.head.level) m.head.level) (sym a.source)
+          + frame_end image_parts q (block_around o.environment c.caller.level) c.caller.level) (sym a.source)
           ∙ ap (λ q. frame_under image_parts layers
-          + frame_end q o.environment.program (block_around o.environment m.head.level) m.head.level) (sym a.parts);
-      block = block;
+          + frame_end q o.environment.program (block_around o.environment c.caller.level) c.caller.level)
+          (sym a.parts);
+      block = inner.around ∙ sym inner.lands.number;
       place = there.place;
       near = there.near;
     })
     l
 
 jumps_of :
-    MarkedOnce → {program : Y.Program} (m : Main program) (h : Home) → IsHome' m h → (more blocks : ℕ) (c : Part)
+    {program : Y.Program} (m : Main program) (h : Home) → IsHome' m h → (more blocks : ℕ) (c : Part)
     (o : Outer) (os : List Outer) → IsAt m h more blocks c o os →
-    (c.unit ≡ true → c.caller.level ≡ 0 → IsInside m c o × (has_jumps (list_of m) ≡ true → IsAbove m h os)) →
-    (own : List Label) → KnowsJumps (scope_of m c) (block_of m h o os) own left_over
-jumps_of once {program} m h ih more blocks c o os a inner own labels level label line index includes out less =
-    let there = (level == c.caller.level) && is_among label (labels_in (list_of m)) in
-    let q = and_parts c.unit ((c.caller.level == 0) && (has_jumps (list_of m) && there)) out in
-    let outer = and_parts (c.caller.level == 0) (has_jumps (list_of m) && there) q.1 in
-    let i = inner q.0 (eqb-true c.caller.level 0 outer.0) in
-    let j = and_parts (has_jumps (list_of m)) there outer.1 in
-    let p = and_parts (level == c.caller.level) (is_among label (labels_in (list_of m))) j.1 in
-    let same = eqb-true level c.caller.level p.0 ∙ ap (λ (x : Y.BlockHead). x.level) i.0.caller in
+    (c.unit ≡ true → has_jumps c.all ≡ true → IsInside m h c o os) → (own : List Label) →
+    KnowsJumps (scope_of m c) (block_of m h o os) own left_over
+jumps_of {program} m h ih more blocks c o os a inner own labels level label line index includes out less =
+    let there = (level == c.caller.level) && is_among label (labels_in c.all) in
+    let q = and_parts c.unit (has_jumps c.all && there) out in
+    let j = and_parts (has_jumps c.all) there q.1 in
+    let p = and_parts (level == c.caller.level) (is_among label (labels_in c.all)) j.1 in
     subst (λ n. Linked (links_for program) (linked_code (code_for program)) index
     (stmt_code o.environment none_taken (Y.Goto n label line)) →
-    Does (block_of m h o os) labels (Y.Goto n label line) index left_over) (sym same)
-    (λ l. far_of once m h ih more blocks c o os a i.0 (i.1 j.0) label p.1 labels line index less l)
+    Does (block_of m h o os) labels (Y.Goto n label line) index left_over) (sym (eqb-true level c.caller.level p.0))
+    (λ l. far_of m h ih more blocks c o os a (inner q.0 j.0) label p.1 labels line index less l)
 
 -- ---- all of it
 
@@ -506,17 +502,15 @@ pub record Knows (program : Y.Program) (s : Scope) (k : Block) (own : List Label
 pub knows_of :
     MarkedOnce → {program : Y.Program} (m : Main program) (h : Home) → IsHome' m h → (more blocks : ℕ) (c : Part)
     (o : Outer) (os : List Outer) → IsAt m h (suc more) blocks c o os →
-    (c.unit ≡ true → c.caller.level ≡ 0 → IsInside m c o × (has_jumps (list_of m) ≡ true → IsAbove m h os)) →
-    (is_jumped_to c.caller c.unit (list_of m) ≡ false → has_jumps (list_of m) ≡ true → IsAbove m h os) →
-    EachBody m more → (own : List Label) → Rises m h (block_of m h o os) own →
-    Knows program (scope_of m c) (block_of m h o os) own
-knows_of once m h ih more blocks c o os a inner above each own rises =
+    (c.unit ≡ true → has_jumps c.all ≡ true → IsInside m h c o os) → EachBody m more → (own : List Label) →
+    Carries c own → Knows program (scope_of m c) (block_of m h o os) own
+knows_of once m h ih more blocks c o os a inner each own carries =
     record {
-      raises = raises_of once m h ih more blocks c o os a each own rises;
-      calls = calls_of once m h ih more blocks c o os a each own rises;
-      jumps = jumps_of once m h ih (suc more) blocks c o os a inner own;
+      raises = raises_of once m h ih more blocks c o os a each own carries;
+      calls = calls_of once m h ih more blocks c o os a each own carries;
+      jumps = jumps_of m h ih (suc more) blocks c o os a inner own;
       signals = λ labels condition line index includes may fits l.
-          signal_at once m h ih more blocks c o os a each own rises labels includes condition line index
+          signal_at once m h ih more blocks c o os a each own carries labels includes condition line index
           (record { fits = fits; linked = l });
-      puts = λ may. puts_of once m h ih more blocks c o os a each above may;
+      puts = λ may. puts_of once m h ih more blocks c o os a each may;
     }

@@ -1,7 +1,7 @@
 -- A block that runs above the main procedure's: of a procedure, of a function, or of a unit; and what is known at its
 -- first statement.
-use Rattle.std.proofs.Common.{◌≡◌, ℕ, suc, ◌+◌, ◌<◌, ◌≤◌, List, [], ◌∷◌, ◌++◌, Bool, Option, None, true, false, refl}
-use Rattle.std.proofs.Common.{sym, ap}
+use Rattle.std.proofs.Common.{◌≡◌, ℕ, suc, ◌+◌, ◌<◌, ◌≤◌, List, [], ◌∷◌, ◌++◌, Option, None, true, false, refl}
+use Rattle.std.proofs.Common.{sym, ap, subst}
 use Rattle.std.specs.Prelude.{drop, not}
 use Rattle.pli_language.specs.declared.condition.Condition.{Condition}
 use Rattle.pli_typing.specs.TypedTree as Y
@@ -12,7 +12,9 @@ use Rattle.pli_coding.specs.Environments.{block_around, none_taken}
 use Rattle.pli_coding.specs.Images.{linked_code}
 use Rattle.pli_coding.specs.Registers.{held_registers}
 use Rattle.pli_coding.specs.Statements.{stmts_code}
+use Rattle.pli_coding.specs.Frames.{frame_end}
 use Rattle.activation_relation.specs.FrameLaws.{with_waits}
+use Rattle.activation_relation.specs.Frames.{frame_under, upper_top}
 use Rattle.activation_relation.specs.Layers.{Layer, Point}
 use Rattle.activation_relation.specs.ServiceLaws.{IsSystem}
 use Rattle.edit_runs.specs.Writing.{with_edits}
@@ -26,7 +28,7 @@ use Rattle.program_places.specs.Placed.{Placed}
 use Rattle.program_places.specs.Programs.{code_for, links_for}
 use Rattle.program_runs.specs.Calls.{left_over}
 use Rattle.program_runs.specs.Starts.{image_parts}
-use Rattle.program_runs.specs.Statements.{Block, EachDoes, IsBegun, Outer, as_outer, outer_block, with_texts}
+use Rattle.program_runs.specs.Statements.{Block, EachDoes, IsBegun, Outer, outer_block, own_height, with_texts}
 use Rattle.expression_runs.specs.Variables.{IsNumber, Spot}
 use Rattle.element_runs.specs.Arrays.{IsArray}
 use Rattle.scalar_runs.specs.Scalars.{IsScalar}
@@ -49,26 +51,17 @@ use Rattle.number_headlines.proofs.Running.{Free, HasDepth, HasTable}
 use Rattle.unit_numbers.specs.Calls.{has_jumps, has_unit, is_jumped_to, scope_in}
 use Rattle.unit_numbers.specs.Steps.{are_steps}
 use Rattle.unit_numbers.proofs.Established.{IsOnOf}
-use Rattle.unit_numbers.proofs.Homes.{Home, IsHome', home_block, world_of}
-use Rattle.unit_numbers.proofs.Hosts.{HasNames, InForce, InForceBelow, MayHost, force_with}
-use Rattle.unit_numbers.proofs.Mains.{Main, list_of}
+use Rattle.unit_numbers.proofs.Homes.{Home, IsHome', world_of}
+use Rattle.unit_numbers.proofs.Hosts.{HasNames, InForce, InForceBelow, IsCarrying, MayHost, MayLand, Part}
+use Rattle.unit_numbers.proofs.Hosts.{force_with, with_control}
+use Rattle.unit_numbers.proofs.Mains.{Main}
 use Rattle.unit_numbers.proofs.Places.{all_placed_in}
 use Rattle.unit_numbers.proofs.Puts.{array_placed}
 
 -- ---- what runs
 
--- its statements name what this procedure's may; it is a unit or a procedure's own block, writes or not, and returns a
--- number or not; its list, and where that stands
-pub record Part : Type 0 where
-  pub caller : Y.BlockHead
-  pub unit : Bool
-  pub writes : Bool
-  pub valued : Bool
-  pub body : Y.Stmts
-  pub index : ℕ
-
 abbrev pub scope_of : {program : Y.Program} → Main program → Part → Scope
-scope_of {program} m c = scope_in program m.called (list_of m) c.caller c.unit c.writes
+scope_of {program} m c = scope_in program m.called c.all c.caller c.unit c.writes
 
 abbrev pub block_of : {program : Y.Program} → Main program → Home → Outer → List Outer → Block
 block_of {program} m h o os = outer_block (world_of m h) (linked_code (code_for program)) o os
@@ -95,11 +88,11 @@ pub record IsAt {program : Y.Program} (m : Main program) (h : Home) (more blocks
         (x : Spot) → is_narrow_known (scope_of m c) x ≡ true →
         IsScalar (block_of m h o os) x (type_known (scope_of m c) x)
     -- the unit in force for a condition is known: its own, or one of a block below
-    pub forced : (condition : Condition) → InForce m (block_of m h o os) c.caller condition
+    pub forced : (condition : Condition) → InForce m (block_of m h o os) c.unit c.caller c.all condition
     -- in the main procedure's own list, to whose labels units jump, that is one of the list
     pub settled :
-        is_jumped_to c.caller c.unit (list_of m) ≡ true → (condition : Condition) →
-        not (has_unit condition (list_of m)) ≡ true → IsSystem (force o.first.state.activations condition)
+        is_jumped_to c.unit c.all ≡ true → c.caller.level ≡ 0 → (condition : Condition) →
+        not (has_unit condition c.all) ≡ true → IsSystem (force o.first.state.activations condition)
     -- the oldest block is the main procedure's
     pub oldest : parent_at (block_of m h o os) 0 ≡ 1
     pub idle : o.first.control.waiting ≡ None
@@ -121,11 +114,15 @@ pub record IsPart {program : Y.Program} (m : Main program) (c : Part) (o : Outer
       Placed (links_for program) (linked_code (code_for program)) c.index
       (stmts_code o.environment none_taken c.body)
 
--- a unit's own block, if the main procedure established the unit
-pub record IsInside {program : Y.Program} (m : Main program) (c : Part) (o : Outer) : Type 0 where
-  pub caller : c.caller ≡ m.head
-  pub level : o.beginning.layer.level ≡ 1
-  pub block : block_around o.environment m.head.level ≡ m.head.number
+-- a unit's own block: further out is that which established the unit, its static parent
+pub record IsInside {program : Y.Program} (m : Main program) (h : Home) (c : Part) (o : Outer) (os : List Outer) : Type 0
+  where
+    pub block : Block
+    pub lands : MayLand program block c.caller c.all
+    pub carried : IsCarrying os block c.all
+    pub found : parent_at (block_of m h o os) c.caller.level ≡ own_height block
+    pub level : o.beginning.layer.level ≡ suc c.caller.level
+    pub around : block_around o.environment c.caller.level ≡ c.caller.number
 
 -- no unit is its own there
 pub record IsBare (p : Point) : Type 0 where
@@ -143,13 +140,16 @@ pub record IsVisited {program : Y.Program} (m : Main program) (h : Home) (c : Pa
     : Type 0
   where
     pub steps :
-        are_steps program m.called c.caller (list_of m) c.valued (labels_in c.body ++ []) c.body ≡ true
-    pub ons : (e : OnUnit × ℕ) → IsListed e (ons_in c o) → IsOnOf m c.caller e
+        are_steps program m.called c.caller c.all c.valued (labels_in c.body ++ []) c.body ≡ true
+    pub ons : (e : OnUnit × ℕ) → IsListed e (ons_in c o) → IsOnOf m c.caller c.all e
     pub bare : IsBare o.first
     pub level : o.environment.level ≡ c.caller.level
     pub inner : 0 < c.caller.level
     pub below : (condition : Condition) → InForceBelow m (block_of m h o os) condition
     pub home : IsHome (scope_of m c) c.valued (block_of m h o os) left_over
+    -- units jump to labels of its list
+    pub own : c.all ≡ c.body
+    pub lands : has_jumps c.all ≡ true → MayLand program (block_of m h o os) c.caller c.all
 
 -- where it was entered just now: its frame has the words that its loops set aside, and nothing waits in them
 pub record IsEntered {program : Y.Program} (m : Main program) (h : Home) (more blocks : ℕ) (c : Part) (o : Outer)
@@ -159,39 +159,44 @@ pub record IsEntered {program : Y.Program} (m : Main program) (h : Home) (more b
     pub part : IsPart m c o
     pub words : at.free.layer.words ≡ statements_set c.body
     pub clear : (n : ℕ) → at.free.layer.waits n ≡ None
-    pub inner : c.unit ≡ true → c.caller.level ≡ 0 → IsInside m c o
+    pub inner : c.unit ≡ true → has_jumps c.all ≡ true → IsInside m h c o os
     pub visited : c.unit ≡ false → IsVisited m h c o os
 
--- ---- above the main procedure's block
+-- ---- the labels that jumps may name
 
--- further out is that, with the labels of lists that it is carrying out
-pub record IsAbove {program : Y.Program} (m : Main program) (h : Home) (os : List Outer) : Type 0 where
-  pub behind : ℕ
-  pub carried : List Label
-  pub there : drop behind os ≡ as_outer (home_block m h) carried ∷ []
-  pub includes : Includes (labels_in (list_of m)) carried
+-- among them are those to which units of its list jump
+abbrev pub Carries : Part → (labels : List Label) → Type 0
+Carries c labels = c.unit ≡ false → has_jumps c.all ≡ true → Includes (labels_in c.all) labels
 
--- so is it of each block that is entered in a list of a block, if units jump
-abbrev pub Rises : {program : Y.Program} → Main program → Home → Block → (own : List Label) → Type 0
-Rises m h k own =
-    (labels : List Label) → Includes own labels → has_jumps (list_of m) ≡ true →
-    IsAbove m h (as_outer k labels ∷ k.outers)
+pub carries_more :
+    (c : Part) (own labels : List Label) → Carries c own → Includes own labels → Carries c labels
+carries_more c own labels carries includes unit jumps label e = includes label (carries unit jumps label e)
 
-pub rises_home :
-    {program : Y.Program} (m : Main program) (h : Home) → Rises m h (home_block m h) (labels_in (list_of m))
-rises_home m h labels includes jumps = record { behind = 0; carried = labels; there = refl; includes = includes }
-
-pub rises_above :
-    {program : Y.Program} (m : Main program) (h : Home) (k : Block) (own : List Label) →
-    (has_jumps (list_of m) ≡ true → IsAbove m h k.outers) → Rises m h k own
-rises_above m h k own above labels includes jumps =
-    let a = above jumps in
-    record { behind = suc a.behind; carried = a.carried; there = a.there; includes = a.includes }
+-- none does
+abbrev pub IsStill : Part → Type 0
+IsStill c = c.unit ≡ false → has_jumps c.all ≡ true → ⊥
 
 -- ---- while limits of loops wait in words of its frame
 
 abbrev pub told_outer : Outer → (waits : ℕ → Option ℕ) → Layer → List Layer → Outer
 told_outer o waits φ φs = record o { first = with_list waits φ φs o.first }
+
+-- a jump lands there as it did
+lands_told :
+    {program : Y.Program} (k : Block) (head : Y.BlockHead) (all : Y.Stmts) (waits : ℕ → Option ℕ) (φ : Layer)
+    (φs : List Layer) → k.first.control.layers ≡ φ ∷ φs → MayLand program k head all →
+    MayLand program (with_control k (record k.first.control { layers = with_waits waits φ ∷ φs })) head all
+lands_told {program} k head all waits φ φs newest l =
+    record {
+      registers = l.registers;
+      entries = l.entries;
+      edits = l.edits;
+      top =
+          subst (λ ls. upper_top image_parts ls
+          ≡ frame_under image_parts ls + frame_end image_parts program head.number head.level) newest l.top;
+      number = l.number;
+      placed = l.placed;
+    }
 
 pub at_told :
     {program : Y.Program} {m : Main program} {h : Home} {more blocks : ℕ} {c : Part} {o : Outer} {os : List Outer}
@@ -218,7 +223,8 @@ at_told {program} {m} {h} {more} {blocks} {c} {o} {os} a waits =
       narrows = λ x is. narrow_told k φ φs waits free.newest x (type_known (scope_of m c) x) (a.narrows x is);
       forced = λ d.
           force_with k (record o.first.control { layers = with_waits waits φ ∷ φs })
-          (λ n. sym (ap (λ ls. drop (suc n) ls) free.newest)) (a.forced d);
+          (λ n. sym (ap (λ ls. drop (suc n) ls) free.newest))
+          (λ unit jumps lands. lands_told k c.caller c.all waits φ φs free.newest lands) (a.forced d);
       settled = a.settled;
       oldest = a.oldest;
       idle = a.idle;
@@ -245,8 +251,8 @@ placed_outer place o = record o { first = with_edits (place ∷ o.first.control.
 
 pub at_placed :
     {program : Y.Program} {m : Main program} {h : Home} {more blocks : ℕ} {c : Part} {o : Outer} {os : List Outer}
-    (a : IsAt m h more blocks c o os) (place : EditPlace) → IsAt m h more blocks c (placed_outer place o) os
-at_placed {program} {m} {h} {more} {blocks} {c} {o} {os} a place =
+    (a : IsAt m h more blocks c o os) → IsStill c → (place : EditPlace) → IsAt m h more blocks c (placed_outer place o) os
+at_placed {program} {m} {h} {more} {blocks} {c} {o} {os} a still place =
     let k = block_of m h o os in
     let free = a.free in
     record {
@@ -264,7 +270,8 @@ at_placed {program} {m} {h} {more} {blocks} {c} {o} {os} a place =
       arrays = λ x is. array_placed k place x (bounds_known (scope_of m c) x) (a.arrays x is);
       narrows = λ x is. narrow_placed k place x (type_known (scope_of m c) x) (a.narrows x is);
       forced = λ d.
-          force_with k (record o.first.control { edits = place ∷ o.first.control.edits }) (λ n. refl) (a.forced d);
+          force_with k (record o.first.control { edits = place ∷ o.first.control.edits }) (λ n. refl)
+          (λ unit jumps lands. absurd (still unit jumps)) (a.forced d);
       settled = a.settled;
       oldest = a.oldest;
       idle = a.idle;
@@ -291,8 +298,9 @@ waited_outer entries o = record o { first = with_texts (entries ++ o.first.contr
 
 pub at_waited :
     {program : Y.Program} {m : Main program} {h : Home} {more blocks : ℕ} {c : Part} {o : Outer} {os : List Outer}
-    (a : IsAt m h more blocks c o os) (entries : List Entry) → IsAt m h more blocks c (waited_outer entries o) os
-at_waited {program} {m} {h} {more} {blocks} {c} {o} {os} a entries =
+    (a : IsAt m h more blocks c o os) → IsStill c → (entries : List Entry) →
+    IsAt m h more blocks c (waited_outer entries o) os
+at_waited {program} {m} {h} {more} {blocks} {c} {o} {os} a still entries =
     let k = block_of m h o os in
     let free = a.free in
     record {
@@ -311,7 +319,7 @@ at_waited {program} {m} {h} {more} {blocks} {c} {o} {os} a entries =
       narrows = λ x is. narrow_waits k entries x (type_known (scope_of m c) x) (a.narrows x is);
       forced = λ d.
           force_with k (record o.first.control { entries = entries ++ o.first.control.entries }) (λ n. refl)
-          (a.forced d);
+          (λ unit jumps lands. absurd (still unit jumps)) (a.forced d);
       settled = a.settled;
       oldest = a.oldest;
       idle = a.idle;
@@ -346,7 +354,7 @@ pub record BodyGoes {program : Y.Program} (m : Main program) (h : Home) (c : Par
 abbrev pub EachBody : {program : Y.Program} → Main program → (more : ℕ) → Type 0
 EachBody {program} m more =
     (h : Home) (blocks : ℕ) (c : Part) (o : Outer) (os : List Outer) → IsHome' m h → IsEntered m h more blocks c o os →
-    (has_jumps (list_of m) ≡ true → IsAbove m h os) → BodyGoes m h c o os
+    BodyGoes m h c o os
 
 -- ---- what its units may name
 

@@ -7,15 +7,16 @@ use Rattle.pli_typing.specs.TypedTree as Y
 use Rattle.pli_meaning.specs.DeclaredShapes.{variables_of_block}
 use Rattle.pli_meaning.specs.Executing.{labels_in}
 use Rattle.pli_coding.specs.Entries.{variables_made}
-use Rattle.pli_coding.specs.Environments.{Environment}
+use Rattle.pli_coding.specs.Environments.{Environment, block_around}
 use Rattle.pli_coding.specs.Registers.{held_registers}
 use Rattle.pli_coding.specs.Statements.{unit_environment, unit_variables}
+use Rattle.program_places.specs.Programs.{environment_for}
 use Rattle.unit_runs.specs.Establishing.{OnUnit}
 use Rattle.number_runs.specs.Numbers.{has_none}
 use Rattle.number_runs.specs.Statements.{are_statements, begins_need, is_line, statements_need, statements_set}
 use Rattle.number_headlines.specs.Programs.{is_body, most_waiting}
 use Rattle.unit_numbers.specs.Calls.{is_body_in, scope_in}
-use Rattle.unit_numbers.specs.Units.{is_bare, is_unit}
+use Rattle.unit_numbers.specs.Units.{is_around, is_bare, is_unit}
 
 abbrev pub IsBare : Y.Program → Y.BlockHead → Type 0
 IsBare program head =
@@ -68,7 +69,7 @@ pub record Unit' (program : Y.Program) (ns : List ℕ) (main : Y.BlockHead) (all
   pub line : x.line < 2 ^ 31
   pub begins : x.head.line < 2 ^ 31
   pub level : x.head.level ≡ suc main.level
-  pub later : main.number ≤ x.head.number
+  pub around : block_around (unit_environment x.head (environment_for program main)) main.level ≡ main.number
   pub bare : IsBare program x.head
   pub fit : Fit program ns all main true false x.body
 
@@ -91,19 +92,20 @@ unit_is program ns main all x h =
     let bare = is_bare program x.head x.head.kind in
     let body = is_body_in program ns all main true false x.body in
     let five = bare && body in
-    let four = nat_le main.number x.head.number && five in
+    let four = is_around program main x.head && five in
     let three = (x.head.level == suc main.level) && four in
     let two = is_line x.head.line && three in
     let b = and_parts (is_line x.line) two h in
     let c = and_parts (is_line x.head.line) three b.1 in
     let d = and_parts (x.head.level == suc main.level) four c.1 in
-    let e = and_parts (nat_le main.number x.head.number) five d.1 in
+    let e = and_parts (is_around program main x.head) five d.1 in
     let f = and_parts bare body e.1 in
     record {
       line = ltb-true x.line (2 ^ 31) b.0;
       begins = ltb-true x.head.line (2 ^ 31) c.0;
       level = eqb-true x.head.level (suc main.level) d.0;
-      later = leb-true main.number x.head.number e.0;
+      around =
+          eqb-true (block_around (unit_environment x.head (environment_for program main)) main.level) main.number e.0;
       bare = bare_is program x.head x.head.kind refl f.0;
       fit = fit_is program ns all main true false x.body f.1;
     }

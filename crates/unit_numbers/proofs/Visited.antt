@@ -1,8 +1,7 @@
 -- What is called, in each phase that the ONs of its list give its block.
-use Rattle.std.proofs.Common.{◌≡◌, ◌⊎◌, inl, inr, ℕ, suc, ◌^◌, ◌<◌, ◌≤◌, List, [], ◌∷◌, length, Bool, Some}
+use Rattle.std.proofs.Common.{◌≡◌, ◌⊎◌, inl, inr, ℕ, suc, ◌+◌, ◌^◌, ◌<◌, ◌≤◌, List, [], ◌∷◌, length, Bool, Some}
 use Rattle.std.proofs.Common.{None, true, false, refl, sym, ap, ◌∙◌, subst, arith}
-use Rattle.std.specs.Prelude.{◌&&◌, ◌==◌, cond, drop, not}
-use Rattle.std.proofs.lemmas.Bool.Decides.{nat_tests}
+use Rattle.std.specs.Prelude.{◌==◌, cond, drop}
 use Rattle.pli_language.specs.declared.condition.Condition.{Condition}
 use Rattle.pli_typing.specs.TypedTree as Y
 use Rattle.pli_meaning.specs.DeclaredShapes.{variables_of_block}
@@ -11,7 +10,7 @@ use Rattle.pli_meaning.specs.StorageState.{newest_height, oncode_of}
 use Rattle.pli_meaning.specs.World.{World}
 use Rattle.storage_relation.proofs.Holders.{eqb-refl}
 use Rattle.rv_meaning.specs.declared.instr.Instr.{Instr}
-use Rattle.pli_coding.specs.Frames.{MemoryParts}
+use Rattle.pli_coding.specs.Frames.{MemoryParts, frame_end}
 use Rattle.pli_serving.specs.ServiceState as S
 use Rattle.activation_relation.specs.Chains.{AreActive, UnitPlaces}
 use Rattle.activation_relation.specs.Changes.{newest_with}
@@ -26,6 +25,7 @@ use Rattle.activation_relation.specs.ServiceLaws.{IsSystem}
 use Rattle.activation_relation.proofs.Displays.{ancestor_low}
 use Rattle.program_places.specs.Programs.{environment_for}
 use Rattle.program_runs.specs.Calls.{left_over}
+use Rattle.program_runs.specs.Starts.{image_parts}
 use Rattle.program_runs.specs.Statements.{Block, IsBegun, Outer, own_height}
 use Rattle.program_runs.proofs.NewestBlocks.{newest_ancestor}
 use Rattle.nested_calls.specs.Nested.{IsNested, parent_at}
@@ -36,16 +36,15 @@ use Rattle.number_runs.specs.Variables.{AreTabled}
 use Rattle.unit_runs.specs.Establishing as T
 use Rattle.phase_runs.specs.Units.{AreBy, ArePlaced, Past, changed, meant_by, newest_units, own_units, past_point}
 use Rattle.phase_runs.proofs.Units.{past_begun}
-use Rattle.unit_numbers.specs.Calls.{has_jumps}
 use Rattle.unit_numbers.proofs.Arrays.{past_array, past_narrow, past_number, past_places, phase_at}
 use Rattle.unit_numbers.proofs.Forces.{AreOwn, FoundOwn, change_own, force_over}
 use Rattle.unit_numbers.proofs.Homes.{Home, past_layered, world_of}
-use Rattle.unit_numbers.proofs.Hosts.{InForce, InForceBelow, Lower}
-use Rattle.unit_numbers.proofs.Mains.{Main, all_ons, list_of, units_for}
+use Rattle.unit_numbers.proofs.Hosts.{InForce, InForceBelow, Lower, MayLand, Part}
+use Rattle.unit_numbers.proofs.Mains.{Main, all_ons, units_for}
 use Rattle.unit_numbers.proofs.Past.{height_same, past_like, past_living, past_same}
 use Rattle.unit_numbers.proofs.Places.{listed_at, placed_by}
 use Rattle.unit_numbers.proofs.Puts.{past_constants}
-use Rattle.unit_numbers.proofs.Scenes.{IsAt, IsBare, IsEntered, IsVisited, Part, block_of, ons_in, scope_of}
+use Rattle.unit_numbers.proofs.Scenes.{IsAt, IsBare, IsEntered, IsVisited, block_of, ons_in, scope_of}
 
 abbrev pub past_outer : Past → Outer → Outer
 past_outer past o = record o { first = past_point past o.first }
@@ -236,14 +235,31 @@ lower_past k past v {φ} {φs} {d} is newest same n =
         activations = ap (λ xs. drop count xs) is ∙ sym (ap (λ xs. drop count xs) v.is) ∙ n.over.activations;
         layers = ap (λ ls. drop count ls) l.newest ∙ sym (ap (λ ls. drop count ls) newest) ∙ n.over.layers;
         remains = remains_past past n.host.point k.first n.over.remains;
+        carried = n.over.carried;
       };
+    }
+
+-- a jump lands there as it did
+past_lands :
+    {program : Y.Program} (k : Block) (head : Y.BlockHead) (all : Y.Stmts) (past : Past) → MayLand program k head all →
+    MayLand program (phase_at k past) head all
+past_lands {program} k head all past l =
+    let like = past_like past k.first in
+    record {
+      registers = l.registers;
+      entries = like.entries ∙ l.entries;
+      edits = like.edits ∙ l.edits;
+      top = like.top ∙ l.top ∙ ap (λ n. n + frame_end image_parts program head.number head.level) (sym like.frame);
+      number = l.number;
+      placed = l.placed;
     }
 
 past_force :
     {program : Y.Program} {m : Main program} {h : Home} {more blocks : ℕ} {c : Part} {o : Outer} {os : List Outer} →
-    IsAt m h more blocks c o os → IsVisited m h c o os → (past : Past) → AreBy (ons_in c o) past → (d : Condition) →
-    InForce m (phase_at (block_of m h o os) past) c.caller d
-past_force {m = m} {h} {c = c} {o} {os} at v past known d = by (force_over (ons_in c o) a v.bare.others d u.own)
+    IsAt m h more blocks c o os → c.unit ≡ false → IsVisited m h c o os → (past : Past) → AreBy (ons_in c o) past →
+    (d : Condition) →
+    InForce m (phase_at (block_of m h o os) past) c.unit c.caller c.all d
+past_force {m = m} {h} {c = c} {o} {os} at unit v past known d = by (force_over (ons_in c o) a v.bare.others d u.own)
   where
     k : Block
     k = block_of m h o os
@@ -265,17 +281,16 @@ past_force {m = m} {h} {c = c} {o} {os} at v past known d = by (force_over (ons_
 
     of :
         InForceBelow m k d → force (past_point past o.first).state.activations d ≡ force o.first.state.activations d →
-        InForce m (phase_at k past) c.caller d
+        InForce m (phase_at k past) c.unit c.caller c.all d
     of (inl system) same = inl (subst IsSystem (sym same) system)
     of (inr n) same = inr (inr (lower_past k past v.bare u.is at.free.newest same n))
 
     by :
         IsSystem (force (a ∷ v.bare.others) d)
         ⊎ (FoundOwn (ons_in c o) a v.bare.others d ⊎ (force (a ∷ v.bare.others) d ≡ force v.bare.others d)) →
-        InForce m (phase_at k past) c.caller d
+        InForce m (phase_at k past) c.unit c.caller c.all d
     by (inl system) = inl (subst (λ xs. IsSystem (force xs d)) (sym u.is) system)
     by (inr (inl f)) =
-        let inner = v.inner in
         inr (inl (record {
           newest = record {
             unit = f.unit;
@@ -285,10 +300,11 @@ past_force {m = m} {h} {c = c} {o} {os} at v past known d = by (force_over (ons_
             by = a;
             forced = ap (λ xs. force xs d) u.is ∙ f.is;
           };
+          itself = unit;
           level = v.level;
-          outermost = λ outer. absurd (omega (arith, outer, inner));
           own = newest.own;
           parent = newest.parent ∙ sym ((past_like past o.first).ancestors c.caller.level);
+          lands = λ jumps. past_lands k c.caller c.all past (v.lands jumps);
         }))
     by (inr (inr below)) = of (v.below d) (ap (λ xs. force xs d) u.is ∙ below ∙ sym bare)
 
@@ -302,11 +318,6 @@ pub record IsSet {program : Y.Program} (m : Main program) (h : Home) (more block
     pub words : at.free.layer.words ≡ statements_set c.body
     pub clear : (n : ℕ) → at.free.layer.waits n ≡ None
     pub home : c.unit ≡ false → IsHome (scope_of m c) c.valued (block_of m h o os) left_over
-
-not_outermost : (level : ℕ) (jumps : Bool) → 0 < level → (level == 0) && jumps ≡ false
-not_outermost level jumps some =
-    let e : (level == 0) ≡ false = grind (arith, nat_tests) in
-    ap (λ q. q && jumps) e
 
 pub past_at :
     {program : Y.Program} {m : Main program} {h : Home} {more blocks : ℕ} {c : Part} {o : Outer} {os : List Outer} →
@@ -332,6 +343,7 @@ past_at {program} {m} {h} {more} {blocks} {c} {o} {os} e unit v writes past know
     let fits = a.free.fits in
     let deep = a.depth.all in
     let begun = past_begun k (ons_in c o) past placed known a.begun in
+    let inner = v.inner in
     record {
       at = record {
         begun = begun;
@@ -347,10 +359,8 @@ past_at {program} {m} {h} {more} {blocks} {c} {o} {os} e unit v writes past know
         variables = λ x is. past_number k past x refl (a.variables x is);
         arrays = λ x is. past_array k past x (bounds_known (scope_of m c) x) refl (a.arrays x is);
         narrows = λ x is. past_narrow k past x (type_known (scope_of m c) x) refl (a.narrows x is);
-        forced = λ d. past_force a v past known d;
-        settled = λ jumped.
-            absurd (cc (sym (ap (λ q. not q && ((c.caller.level == 0) && has_jumps (list_of m))) unit
-            ∙ not_outermost c.caller.level (has_jumps (list_of m)) v.inner) ∙ jumped));
+        forced = λ d. past_force a unit v past known d;
+        settled = λ jumped outer. absurd (omega (arith, inner, outer));
         oldest = (past_like past o.first).ancestors 0 ∙ a.oldest;
         idle = same.waiting ∙ a.idle;
         code = subst (λ n. n < 2 ^ 16) (sym (past_code past o.first)) a.code;

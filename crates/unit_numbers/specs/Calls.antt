@@ -54,15 +54,19 @@ has_jumps all = list_any (λ x. jump_in x.body) (all_units_in all)
 
 -- ---- blocks
 
--- the main procedure's own list, to whose labels units jump: a place in a format list of it would be dropped
-abbrev pub is_jumped_to : (caller : Y.BlockHead) → (unit : Bool) → (all : Y.Stmts) → Bool
-is_jumped_to caller unit all = not unit && ((caller.level == 0) && has_jumps all)
+-- a list to whose labels units of it jump: a place in a format list of its block would be dropped
+abbrev pub is_jumped_to : (unit : Bool) → (all : Y.Stmts) → Bool
+is_jumped_to unit all = not unit && has_jumps all
+
+-- so nothing is written there, but in the main procedure's own list, if it has no unit for ERROR
+abbrev pub is_silent : (caller : Y.BlockHead) → (unit : Bool) → (all : Y.Stmts) → Bool
+is_silent caller unit all = is_jumped_to unit all && (not (caller.level == 0) || has_unit C.Error all)
 
 -- a block whose statements may name the variables that a block may name, and call what that may: itself, or the
--- procedure or function of which it is a unit. It may write numbers, or it writes none. The main procedure's own list, if
--- units jump to its labels, writes nothing that raises a condition for which it has a unit, so that no place in a
--- format list is in use there: nothing at all with a unit for ERROR, which writing raises. A unit doesn't return,
--- and one of the main procedure may jump to the labels of that list.
+-- procedure or function of which it is a unit, which has this list. It may write numbers, or it writes none. The main
+-- procedure's own list, if units jump to its labels, writes nothing that raises a condition for which it has a unit, so
+-- that no place in a format list is in use there: nothing at all with a unit for ERROR, which writing raises; and so does
+-- no other list to whose labels units jump. A unit doesn't return, and may jump to the labels of that list.
 abbrev pub scope_in :
     Y.Program → List ℕ → (all : Y.Stmts) → (caller : Y.BlockHead) → (unit writes : Bool) → Scope
 scope_in program ns all caller unit writes =
@@ -79,18 +83,16 @@ scope_in program ns all caller unit writes =
       is_given_function = λ count level n. false;
       is_given_procedure = λ count level n. false;
       counts = true;
-      puts = writes && not (is_jumped_to caller unit all && has_unit C.Error all);
+      puts = writes && not (is_silent caller unit all);
       reads = false;
-      overflows = not (writes && (is_jumped_to caller unit all && has_unit C.FixedOverflow all));
-      divides = not (writes && (is_jumped_to caller unit all && has_unit C.ZeroDivide all));
+      overflows = not (writes && (is_jumped_to unit all && has_unit C.FixedOverflow all));
+      divides = not (writes && (is_jumped_to unit all && has_unit C.ZeroDivide all));
       narrows = true;
       texts = false;
       elements = true;
       own = not unit;
       is_outer = λ level label.
-          unit
-          && (caller.level == 0
-          && (has_jumps all && ((level == caller.level) && is_among label (labels_in all))));
+          unit && (has_jumps all && ((level == caller.level) && is_among label (labels_in all)));
       signals = λ c. true;
       codes = true;
       returns = not unit;

@@ -19,3 +19,5 @@ pub mod HaltRows
 pub mod TollRows
 pub mod PleadRows
 pub mod LodgeRows
+pub mod RetreatRows
+pub mod ResortRows

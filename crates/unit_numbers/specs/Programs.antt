@@ -33,10 +33,10 @@ is_unit_body program ns main body =
     are_steps program ns main body false (labels_in body ++ []) body
     && (are_apart (all_units_in body ++ called_units program ns)
     && (nat_le (statements_need body) held_registers
-    && (nat_le (statements_set body) most_waiting && are_called program body ns ns)))
+    && (nat_le (statements_set body) most_waiting && are_called program ns ns)))
 
 abbrev pub is_unit_list : Y.Program → (main : Y.BlockHead) → Y.Stmts → Bool
-is_unit_list program main body = is_unit_body program (called_ones program body) main body
+is_unit_list program main body = is_unit_body program (called_ones program) main body
 
 abbrev pub is_unit_main : Y.Program → Y.Procedure → Bool
 is_unit_main program p =

@@ -11,6 +11,8 @@ ghost use Rattle.unit_numbers.specs.LodgeRows.{LodgeKept};
 ghost use Rattle.unit_numbers.specs.MendRows.{MendKept};
 ghost use Rattle.unit_numbers.specs.PleadRows.{PleadKept};
 ghost use Rattle.unit_numbers.specs.RescueRows.{RescueKept};
+ghost use Rattle.unit_numbers.specs.ResortRows.{ResortKept};
+ghost use Rattle.unit_numbers.specs.RetreatRows.{RetreatKept};
 ghost use Rattle.unit_numbers.specs.Rows.{HealKept};
 ghost use Rattle.unit_numbers.specs.ShiftRows.{ShiftKept};
 ghost use Rattle.unit_numbers.specs.TallyRows.{TallyKept};
@@ -131,6 +133,20 @@ pub fn plead_kept()
 /// A worked row: a procedure's own unit, raised in another that it calls, and the main procedure's behind REVERT.
 pub fn lodge_kept()
     ensures { LodgeKept }
+{
+    unit_number_headlines_kept();
+}
+
+/// A worked row: a procedure's own unit, which leaves two blocks by a jump to a label of the procedure.
+pub fn retreat_kept()
+    ensures { RetreatKept }
+{
+    unit_number_headlines_kept();
+}
+
+/// A worked row: a function whose unit for ERROR goes back to a label of it from behind its list.
+pub fn resort_kept()
+    ensures { ResortKept }
 {
     unit_number_headlines_kept();
 }
