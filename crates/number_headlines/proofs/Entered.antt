@@ -59,7 +59,7 @@ use Rattle.list_calls.specs.Passed.{IsTelling}
 use Rattle.number_headlines.proofs.CalledBlocks.{Moment, end_by, callee_in, entered_at, inner_set, begun_room}
 use Rattle.number_headlines.proofs.CalledBlocks.{has_words, has_all, are_made, made_idle, is_inside, nested_by}
 use Rattle.number_headlines.proofs.CalledBlocks.{outer_by, own_by, outer_array_by, own_array_by, outer_narrow_by}
-use Rattle.number_headlines.proofs.CalledBlocks.{own_narrow_by}
+use Rattle.number_headlines.proofs.CalledBlocks.{DontPass, own_narrow_by}
 
 -- ---- what it may name
 

@@ -1,0 +1,10 @@
+pub mod Simple
+pub mod Testing
+pub mod Counting
+pub mod ArrayCode
+pub mod ArrayMeaning
+pub mod ArrayPoints
+pub mod Evaluating
+pub mod Elements
+pub mod ArrayAssigned
+pub mod Assignments
