@@ -31,7 +31,7 @@ use Rattle.area_runs.proofs.ChangedPoints.{follows_among, generation_follows, ge
 use Rattle.area_runs.proofs.ChangedPoints.{same_services, with_state}
 use Rattle.pli_headline.proofs.Scalars.{IsNumeric, store_kind}
 use Rattle.scalar_runs.proofs.ScalarWords.{kept_size, kind_for, storable, word_in, written_word}
-use Rattle.array_runs.specs.Arrays.{Grid, IsGrid}
+use Rattle.array_runs.specs.Arrays.{Grid, IsArray}
 use Rattle.array_runs.proofs.ArrayMeaning as N
 use Rattle.array_runs.proofs.ArrayMeaning.{assigned_state, designated_element, held_generation}
 use Rattle.array_runs.proofs.ArrayPoints.{ElementAt, element_at, four_bytes, plain_grid, size_is}
@@ -93,7 +93,7 @@ kept_inside p g values zs v numeric of within =
     omega (arith, inside, kept, four, place)
 
 pub stands_assigned :
-    (w : Surroundings) (k : Block) (p : Point) (x : Spot) (g : Grid) (is : IsGrid k x g) (holds : N.Holds p.state x g)
+    (w : Surroundings) (k : Block) (p : Point) (x : Spot) (g : Grid) (is : IsArray k x g) (holds : N.Holds p.state x g)
     (zs : List ℤ) → ElementAt k x g is p holds zs → (v : BasicValue) (b : Base) (m : List ℕ) → IsNumeric g.type →
     IsOf (kind_for g.type) v → is_within g.bounds zs ≡ true → length m ≡ memory_size → Stands w p →
     StandsIn w p b m →

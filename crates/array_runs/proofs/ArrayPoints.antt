@@ -28,7 +28,7 @@ use Rattle.expression_runs.specs.Variables.{Spot, number_place}
 use Rattle.expression_runs.proofs.VariablePoints.{first_base}
 use Rattle.pli_headline.proofs.Scalars.{IsNumeric, load_kind}
 use Rattle.scalar_runs.proofs.ScalarWords.{found_word, kind_for, word_in}
-use Rattle.array_runs.specs.Arrays.{Grid, IsGrid, grid_declared}
+use Rattle.array_runs.specs.Arrays.{Grid, IsArray, grid_declared}
 use Rattle.array_runs.proofs.ArrayMeaning as N
 use Rattle.array_runs.proofs.ArrayMeaning.{held_generation, held_shape, shape_is}
 
@@ -57,12 +57,12 @@ size_is g initial is =
 
 -- ---- where it stands
 
-abbrev pub element_at : (k : Block) (x : Spot) (g : Grid) → IsGrid k x g → List ℤ → ℕ
+abbrev pub element_at : (k : Block) (x : Spot) (g : Grid) → IsArray k x g → List ℤ → ℕ
 element_at k x g is zs = is.known.base + 4 * element_place g.bounds zs + number_place k.environment x
 
 -- its frame, and its distance from the first element, lie in memory
 pub frame_small :
-    (k : Block) (x : Spot) (g : Grid) (is : IsGrid k x g) (zs : List ℤ) → IsNumeric g.type →
+    (k : Block) (x : Spot) (g : Grid) (is : IsArray k x g) (zs : List ℤ) → IsNumeric g.type →
     is_within g.bounds zs ≡ true → is.known.base + 4 * element_place g.bounds zs < 15 * 2 ^ 20
 frame_small k x g is zs numeric within =
     let inside = is.known.inside in
@@ -72,14 +72,14 @@ frame_small k x g is zs numeric within =
 
 -- there are few elements
 pub few_elements :
-    (k : Block) (x : Spot) (g : Grid) (is : IsGrid k x g) → IsNumeric g.type → element_count g.bounds ≤ 2 ^ 24
+    (k : Block) (x : Spot) (g : Grid) (is : IsArray k x g) → IsNumeric g.type → element_count g.bounds ≤ 2 ^ 24
 few_elements k x g is numeric =
     let inside = is.known.inside in
     let size = size_is g is.initial numeric in
     omega (arith, inside, size)
 
 pub place_is :
-    (k : Block) (x : Spot) (g : Grid) (is : IsGrid k x g) (zs : List ℤ) → IsNumeric g.type →
+    (k : Block) (x : Spot) (g : Grid) (is : IsArray k x g) (zs : List ℤ) → IsNumeric g.type →
     is_within g.bounds zs ≡ true → element_at k x g is zs % 4 ≡ 0 →
     PlaceFrom (is.known.base + 4 * element_place g.bounds zs) (pos (number_place k.environment x))
     (element_at k x g is zs)
@@ -117,7 +117,7 @@ pub plain_grid : (g : Grid) (values : ℕ → List ℤ → BasicValue) → IsNum
 plain_grid g values is = plain_by g.type g.bounds values is
 
 -- a value of its kind, and the word that tells it wherever memory has what is stored
-pub record ElementAt (k : Block) (x : Spot) (g : Grid) (is : IsGrid k x g) (p : Point) (holds : N.Holds p.state x g)
+pub record ElementAt (k : Block) (x : Spot) (g : Grid) (is : IsArray k x g) (p : Point) (holds : N.Holds p.state x g)
     (zs : List ℤ) : Type 0
   where
     pub here : p.places.at holds.serial + 0 + 4 * element_place g.bounds zs ≡ element_at k x g is zs
@@ -130,7 +130,7 @@ pub record ElementAt (k : Block) (x : Spot) (g : Grid) (is : IsGrid k x g) (p : 
 
 -- the array there
 pub array_at :
-    {k : Block} {numbers : ℕ → ℕ} {p : Point} (x : Spot) (g : Grid) (is : IsGrid k x g) → IsAmong k numbers p →
+    {k : Block} {numbers : ℕ → ℕ} {p : Point} (x : Spot) (g : Grid) (is : IsArray k x g) → IsAmong k numbers p →
     (holds : N.Holds p.state x g) × (holds.serial ≡ is.known.serial)
 array_at {k} {p = p} x g is o =
     let known = is.known in
@@ -155,7 +155,7 @@ array_at {k} {p = p} x g is o =
     )
 
 pub held_at :
-    {k : Block} {numbers : ℕ → ℕ} {p : Point} {index : ℕ} (x : Spot) (g : Grid) (is : IsGrid k x g) (zs : List ℤ) →
+    {k : Block} {numbers : ℕ → ℕ} {p : Point} {index : ℕ} (x : Spot) (g : Grid) (is : IsArray k x g) (zs : List ℤ) →
     IsNumeric g.type → is_within g.bounds zs ≡ true → IsBegun k → IsAmong k numbers p → (f : Family) →
     AreIn k.call.surroundings p numbers index f → (holds : N.Holds p.state x g) → holds.serial ≡ is.known.serial →
     ElementAt k x g is p holds zs

@@ -66,7 +66,7 @@ use Rattle.element_runs.proofs.SubscriptTests.{Jumps, valued_beside}
 use Rattle.scalar_runs.specs.Assignments.{IsPlacedWith}
 use Rattle.scalar_runs.specs.Fitted.{Fits, fitted, fitted_aims}
 use Rattle.scalar_runs.proofs.ScalarWords.{kind_for, word_in}
-use Rattle.array_runs.specs.Arrays.{Grid, IsElementType, IsGrid, element}
+use Rattle.array_runs.specs.Arrays.{Grid, IsElementType, IsArray, element}
 use Rattle.array_runs.specs.Laws.{bit_assigned, number_assigned}
 use Rattle.array_runs.specs.Subscripts.{AreSubscripts}
 use Rattle.array_runs.proofs.ArrayAssigned.{assigned_among, behind_assigned, services_same, stands_assigned}
@@ -98,7 +98,7 @@ value_small _ v is of = absurd is
 
 -- with the address in u3 and a value in a0: from there to the point behind
 store_reaches :
-    (k : Block) (x : Spot) (g : Grid) (is : IsGrid k x g) {numbers : ℕ → ℕ} {p : Point} {index : ℕ} →
+    (k : Block) (x : Spot) (g : Grid) (is : IsArray k x g) {numbers : ℕ → ℕ} {p : Point} {index : ℕ} →
     IsNumeric g.type → (h : frame_of k p) → IsAmong k numbers p → (c : ℕ) (f : Family) (zs : List ℤ) →
     is_within g.bounds zs ≡ true → (holds : N.Holds p.state x g) → ElementAt k x g is p holds zs → (v : BasicValue) →
     IsOf (kind_for g.type) v →
@@ -175,7 +175,7 @@ two_needed k need (b ∷ bs) (Y.NumberThen s rest) some subs =
 
 -- while it waits the subscripts are evaluated
 puts_waiting :
-    (k : Setting) (x : Spot) (g : Grid) (is : IsGrid k.block x g) → IsNumeric g.type → (aims : Aims (Unit {0}))
+    (k : Setting) (x : Spot) (g : Grid) (is : IsArray k.block x g) → IsNumeric g.type → (aims : Aims (Unit {0}))
     (v : BasicValue) → IsOf (kind_for g.type) v → (need : ℕ) (s : Y.Number) (rest : Y.Numbers) → SubscriptComes k →
     IsBegun k.block → AreSubscripts k 1 need g.bounds (Y.NumberThen s rest) →
     are_simple k.block.environment (Y.NumberThen s rest) ≡ false → Puts k x g aims v need (Y.NumberThen s rest)
@@ -253,7 +253,7 @@ puts_waiting k x g is numeric aims v of need s rest outside begun subs waits clo
 
 -- simple subscripts leave it in a0
 puts_simple :
-    (k : Setting) (x : Spot) (g : Grid) (is : IsGrid k.block x g) → IsNumeric g.type → (aims : Aims (Unit {0}))
+    (k : Setting) (x : Spot) (g : Grid) (is : IsArray k.block x g) → IsNumeric g.type → (aims : Aims (Unit {0}))
     (v : BasicValue) → IsOf (kind_for g.type) v → (need : ℕ) (s : Y.Number) (rest : Y.Numbers) → SubscriptComes k →
     IsBegun k.block → AreSubscripts k 1 need g.bounds (Y.NumberThen s rest) →
     are_simple k.block.environment (Y.NumberThen s rest) ≡ true → Puts k x g aims v need (Y.NumberThen s rest)
@@ -316,7 +316,7 @@ puts_simple k x g is numeric aims v of need s rest outside begun subs simple clo
     })))))
 
 puts_does :
-    (k : Setting) (x : Spot) (g : Grid) (is : IsGrid k.block x g) → IsNumeric g.type → (aims : Aims (Unit {0}))
+    (k : Setting) (x : Spot) (g : Grid) (is : IsArray k.block x g) → IsNumeric g.type → (aims : Aims (Unit {0}))
     (v : BasicValue) → IsOf (kind_for g.type) v → (need : ℕ) (s : Y.Number) (rest : Y.Numbers) → SubscriptComes k →
     IsBegun k.block → AreSubscripts k 1 need g.bounds (Y.NumberThen s rest) → (q : Bool) →
     are_simple k.block.environment (Y.NumberThen s rest) ≡ q → Puts k x g aims v need (Y.NumberThen s rest)
@@ -350,7 +350,7 @@ assign_by :
     (words : ℕ) (k : Block) (labels : List Label) (x : Spot) (g : Grid) (s : Y.Number) (rest : Y.Numbers)
     (source : Y.Stored) (line index left' first second most : ℕ) →
     IsPlacedWith words k (assignment x (Y.NumberThen s rest) source line) line index (max first second) most →
-    (is : IsGrid k x g) → IsNumeric g.type → (fits : BasicValue → Type 0) →
+    (is : IsArray k x g) → IsNumeric g.type → (fits : BasicValue → Type 0) →
     ((v : BasicValue) → fits v → IsOf (kind_for g.type) v) → IsCoded words k x (Y.NumberThen s rest) source line →
     SubscriptComes (setting_around words k labels line most) →
     Leaves word_in fits (setting_around words k labels line most) first (λ t. stored_code k.environment t source)
@@ -478,7 +478,7 @@ pub number_stored :
     (words : ℕ) (k : Block) (labels : List Label) (x : Spot) (g : Grid) (precision : ℕ) (xs : Y.Numbers)
     (source : Y.Number) (line index left' first second most : ℕ) →
     IsPlacedWith words k (number_assigned x xs precision source line) line index (max first second) most →
-    IsGrid k x g → g.type ≡ Y.FixedLeaf precision → SubscriptComes (setting_around words k labels line most) →
+    IsArray k x g → g.type ≡ Y.FixedLeaf precision → SubscriptComes (setting_around words k labels line most) →
     Fits (setting_around words k labels line most) first precision source →
     AreSubscripts (setting_around words k labels line most) 1 second g.bounds xs →
     DoesWith words k labels (number_assigned x xs precision source line) index left'
@@ -520,7 +520,7 @@ bit_leaves k need x does p numbers taken c index f o line registers l paid there
 pub bit_stored :
     (words : ℕ) (k : Block) (labels : List Label) (x : Spot) (g : Grid) (xs : Y.Numbers) (source : Y.Bit)
     (line index left' first second most : ℕ) →
-    IsPlacedWith words k (bit_assigned x xs source line) line index (max first second) most → IsGrid k x g →
+    IsPlacedWith words k (bit_assigned x xs source line) line index (max first second) most → IsArray k x g →
     g.type ≡ Y.BitLeaf → SubscriptComes (setting_around words k labels line most) →
     Tests (setting_around words k labels line most) first source →
     AreSubscripts (setting_around words k labels line most) 1 second g.bounds xs →

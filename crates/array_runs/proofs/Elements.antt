@@ -45,7 +45,7 @@ use Rattle.element_runs.specs.Subscripts.{SubscriptComes}
 use Rattle.element_runs.proofs.Addresses.{found_code, found_reach}
 use Rattle.element_runs.proofs.SubscriptTests.{Beside, Jumps, nothing_beside}
 use Rattle.scalar_runs.proofs.ScalarWords.{kind_for, word_in}
-use Rattle.array_runs.specs.Arrays.{AreBounds, Grid, IsGrid, element}
+use Rattle.array_runs.specs.Arrays.{AreBounds, Grid, IsArray, element}
 use Rattle.array_runs.specs.Subscripts.{AreSubscripts}
 use Rattle.array_runs.proofs.ArrayCode.{element_code, element_is, loads, number_loaded, bit_loaded, place_code}
 use Rattle.array_runs.proofs.ArrayMeaning as N
@@ -57,7 +57,7 @@ use Rattle.array_runs.proofs.Evaluating.{Goes, evaluates, found_many}
 -- ---- behind the subscripts
 
 -- the element's distance from the frame in u3
-abbrev pub Finds : (k : Setting) (x : Spot) (g : Grid) (is : IsGrid k.block x g) (ys : Base → List (ℕ × ℕ))
+abbrev pub Finds : (k : Setting) (x : Spot) (g : Grid) (is : IsArray k.block x g) (ys : Base → List (ℕ × ℕ))
     (p : Point) (numbers : ℕ → ℕ) (h : frame_of k.block p) (end : ℕ) (zs : List ℤ) → Family → Type 0
 Finds k x g is ys p numbers h end zs f =
     (b' : Base) →
@@ -67,7 +67,7 @@ Finds k x g is ys p numbers h end zs f =
 -- subscripts that are found: the element's address comes into u3, or ERROR comes
 pub placed_does :
     (k : Setting) {p : Point} {numbers : ℕ → ℕ} {index : ℕ} {ys : Base → List (ℕ × ℕ)} {aims : Aims V.Designated}
-    (x : Spot) (g : Grid) (is : IsGrid k.block x g) → IsNumeric g.type → SubscriptComes k → IsBegun k.block →
+    (x : Spot) (g : Grid) (is : IsArray k.block x g) → IsNumeric g.type → SubscriptComes k → IsBegun k.block →
     Closed k.block.call.code aims → Jumps k p.state.world.acts aims → (h : frame_of k.block p) →
     IsAmong k.block numbers p → p.control.line ≡ k.around.line → Beside ys → (xs : Y.Numbers) (zs : List ℤ)
     (taken c : ℕ) (f : Family) → AreFound k p numbers h taken g.bounds xs zs →
@@ -128,7 +128,7 @@ placed_does k {p} {numbers} {index} {ys} {aims} x g is numeric outside begun clo
 -- ---- from any point of the block
 
 -- what goes on where the element is found, at a point behind its subscripts
-abbrev pub Next : (k : Setting) (x : Spot) (g : Grid) (is : IsGrid k.block x g) (aims : Aims V.Designated)
+abbrev pub Next : (k : Setting) (x : Spot) (g : Grid) (is : IsArray k.block x g) (aims : Aims V.Designated)
     (p : Point) (numbers : ℕ → ℕ) (taken end credits : ℕ) → Type 0
 Next k x g is aims p numbers taken end credits =
     (q : Point) (after : ℕ → ℕ) (h : frame_of k.block q) (zs : List ℤ) → is_within g.bounds zs ≡ true →
@@ -142,7 +142,7 @@ abbrev pub checks : Setting → Spot → List ℤ → Meaning V.Designated
 checks k x zs = V.variable_designated k.around (variable_of x) None whole_part zs
 
 pub located_does :
-    (k : Setting) (aims : Aims V.Designated) (x : Spot) (g : Grid) (is : IsGrid k.block x g) → IsNumeric g.type →
+    (k : Setting) (aims : Aims V.Designated) (x : Spot) (g : Grid) (is : IsArray k.block x g) → IsNumeric g.type →
     SubscriptComes k → IsBegun k.block → Closed k.block.call.code aims → (xs : Y.Numbers) (need base t : ℕ) →
     AreSubscripts k t need g.bounds xs → (p : Point) (numbers : ℕ → ℕ) (taken c index : ℕ) (f : Family) →
     taken ≡ base + t → HasRegisters k base need → Jumps k p.state.world.acts aims → IsAmong k.block numbers p →
@@ -187,7 +187,7 @@ located_does k aims x g is numeric outside begun closed xs need base t subs p nu
 
 -- the word of an element comes into a0
 read_word :
-    (k : Setting) (x : Spot) (g : Grid) (is : IsGrid k.block x g) → IsNumeric g.type → (p : Point)
+    (k : Setting) (x : Spot) (g : Grid) (is : IsArray k.block x g) → IsNumeric g.type → (p : Point)
     (numbers : ℕ → ℕ) (y : Stretch) (q : Point) (after : ℕ → ℕ) (h : frame_of k.block q) (zs : List ℤ) →
     is_within g.bounds zs ≡ true → IsAmong k.block after q → y.acts ≤ q.state.world.acts →
     q.control.line ≡ y.line → ((n : ℕ) → n < y.taken → after n ≡ y.numbers n) → (holds : N.Holds q.state x g) →
@@ -249,7 +249,7 @@ no_subscripts k t need (b ∷ bs) some subs = subs
 
 pub number_does :
     (k : Setting) (x : Spot) (g : Grid) (precision : ℕ) (xs : Y.Numbers) (need : ℕ) → IsBegun k.block →
-    IsGrid k.block x g → g.type ≡ Y.FixedLeaf precision → SubscriptComes k → AreSubscripts k 0 need g.bounds xs →
+    IsArray k.block x g → g.type ≡ Y.FixedLeaf precision → SubscriptComes k → AreSubscripts k 0 need g.bounds xs →
     L.Does k need (Y.NumberIn (element x xs))
 number_does k x g precision Y.NoNumber need begun is fixed outside subs p numbers taken c index f o line room l paid
     there =
@@ -293,7 +293,7 @@ number_does k x g precision (Y.NumberThen s rest) need begun is fixed outside su
     }))))
 
 pub bit_does :
-    (k : Setting) (x : Spot) (g : Grid) (xs : Y.Numbers) (need : ℕ) → IsBegun k.block → IsGrid k.block x g →
+    (k : Setting) (x : Spot) (g : Grid) (xs : Y.Numbers) (need : ℕ) → IsBegun k.block → IsArray k.block x g →
     g.type ≡ Y.BitLeaf → SubscriptComes k → AreSubscripts k 0 need g.bounds xs →
     Tests k need (Y.BitIn (element x xs))
 bit_does k x g Y.NoNumber need begun is bit outside subs p numbers taken c index f o line room l paid there =

@@ -8,3 +8,4 @@ pub mod Evaluating
 pub mod Elements
 pub mod ArrayAssigned
 pub mod Assignments
+pub mod Outer

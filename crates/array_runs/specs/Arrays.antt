@@ -48,7 +48,7 @@ IsElementType Y.BitLeaf = ⊤
 IsElementType _ = ⊥
 
 -- an array that the statements of the block know
-pub record IsGrid (k : Block) (x : Spot) (g : Grid) : Type 0 where
+pub record IsArray (k : Block) (x : Spot) (g : Grid) : Type 0 where
   pub initial : List T.InitialItem
   pub known : IsKnown k x (grid_declared g initial)
   pub type : IsElementType g.type

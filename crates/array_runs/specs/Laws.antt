@@ -11,18 +11,18 @@ use Rattle.test_runs.specs.Tests.{Tests}
 use Rattle.element_runs.specs.Subscripts.{SubscriptComes}
 use Rattle.scalar_runs.specs.Assignments.{IsPlacedWith}
 use Rattle.scalar_runs.specs.Fitted.{Fits}
-use Rattle.array_runs.specs.Arrays.{Grid, IsGrid, element}
+use Rattle.array_runs.specs.Arrays.{Grid, IsArray, element}
 use Rattle.array_runs.specs.Subscripts.{AreSubscripts}
 
 -- an element in an expression: its subscripts come in their order, and each is then tested against its bounds
 pub record ArraysDo : Type 0 where
   pub number :
       (k : Setting) (x : Spot) (g : Grid) (precision : ℕ) (subscripts : Y.Numbers) (need : ℕ) → IsBegun k.block →
-      IsGrid k.block x g → g.type ≡ Y.FixedLeaf precision → SubscriptComes k →
+      IsArray k.block x g → g.type ≡ Y.FixedLeaf precision → SubscriptComes k →
       AreSubscripts k 0 need g.bounds subscripts → L.Does k need (Y.NumberIn (element x subscripts))
   pub bit :
       (k : Setting) (x : Spot) (g : Grid) (subscripts : Y.Numbers) (need : ℕ) → IsBegun k.block →
-      IsGrid k.block x g → g.type ≡ Y.BitLeaf → SubscriptComes k → AreSubscripts k 0 need g.bounds subscripts →
+      IsArray k.block x g → g.type ≡ Y.BitLeaf → SubscriptComes k → AreSubscripts k 0 need g.bounds subscripts →
       Tests k need (Y.BitIn (element x subscripts))
 
 -- ---- assignments
@@ -40,7 +40,7 @@ pub record ArraysAssigned : Type 0 where
       (words : ℕ) (k : Block) (labels : List Label) (x : Spot) (g : Grid) (precision : ℕ) (subscripts : Y.Numbers)
       (source : Y.Number) (line index left' first second most : ℕ) →
       IsPlacedWith words k (number_assigned x subscripts precision source line) line index (max first second) most →
-      IsGrid k x g → g.type ≡ Y.FixedLeaf precision → SubscriptComes (setting_around words k labels line most) →
+      IsArray k x g → g.type ≡ Y.FixedLeaf precision → SubscriptComes (setting_around words k labels line most) →
       Fits (setting_around words k labels line most) first precision source →
       AreSubscripts (setting_around words k labels line most) 1 second g.bounds subscripts →
       DoesWith words k labels (number_assigned x subscripts precision source line) index left'
@@ -48,7 +48,7 @@ pub record ArraysAssigned : Type 0 where
       (words : ℕ) (k : Block) (labels : List Label) (x : Spot) (g : Grid) (subscripts : Y.Numbers) (source : Y.Bit)
       (line index left' first second most : ℕ) →
       IsPlacedWith words k (bit_assigned x subscripts source line) line index (max first second) most →
-      IsGrid k x g → g.type ≡ Y.BitLeaf → SubscriptComes (setting_around words k labels line most) →
+      IsArray k x g → g.type ≡ Y.BitLeaf → SubscriptComes (setting_around words k labels line most) →
       Tests (setting_around words k labels line most) first source →
       AreSubscripts (setting_around words k labels line most) 1 second g.bounds subscripts →
       DoesWith words k labels (bit_assigned x subscripts source line) index left'

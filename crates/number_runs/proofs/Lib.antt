@@ -10,6 +10,7 @@ pub mod AreaWords
 pub mod AreaNames
 pub mod AreaKnown
 pub mod Unset
+pub mod Sets
 pub mod Takes
 pub mod BlocksTaken
 pub mod Waiting
@@ -22,6 +23,7 @@ pub mod Labels
 pub mod Counters
 pub mod Turns
 pub mod Homes
+pub mod Items
 pub mod Narrowed
 pub mod Statements
 pub mod Uncounted

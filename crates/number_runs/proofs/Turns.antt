@@ -18,13 +18,14 @@ use Rattle.program_runs.specs.Statements.{Block, IsBegun, set_aside}
 use Rattle.expression_runs.specs.Values.{in_registers}
 use Rattle.counter_runs.specs.Counts.{Counting, IsStep, body_index, count_of, turn_in}
 use Rattle.counter_runs.specs.Words.{telling, with_word}
-use Rattle.counter_runs.proofs.Known.{array_told, number_told}
+use Rattle.counter_runs.proofs.Known.{number_told}
 use Rattle.counter_runs.proofs.Limits.{limit_size}
 use Rattle.counter_runs.proofs.Turns.{coded, starts_code}
 use Rattle.counter_runs.proofs.Words.{begun_telling}
 use Rattle.number_runs.specs.Knowledge.{AreStandingWith, HasFrame, IsHome, IsReady, IsFree, KnowsGivenCalls}
 use Rattle.number_runs.specs.Knowledge.{StandingWith, KnowsAroundTexts, KnowsCalls, KnowsRaises, KnowsPuts}
 use Rattle.number_runs.specs.Numbers.{Scope, bounds_known, type_known, without_located}
+use Rattle.number_runs.proofs.Arrays.{array_told}
 use Rattle.number_runs.proofs.Narrow.{narrow_told}
 use Rattle.list_calls.proofs.ParametersPassed.{parameter_told}
 use Rattle.number_runs.proofs.Received.{passable_told, stored_untold}

@@ -39,7 +39,7 @@ use Rattle.edit_runs.specs.Edits.{KnowsFormats, within}
 use Rattle.program_places.specs.Laws.{IsLabel}
 use Rattle.program_places.specs.Placed.{Placed}
 use Rattle.counter_runs.specs.Words.{telling}
-use Rattle.element_runs.specs.Arrays.{IsArray}
+use Rattle.array_runs.specs.Arrays.{IsArray}
 use Rattle.element_runs.specs.Subscripts.{SubscriptComes}
 use Rattle.argument_runs.specs.Parameters.{IsParameter}
 use Rattle.list_calls.specs.Arguments.{EachGives, Way, arguments_of, setting_told}

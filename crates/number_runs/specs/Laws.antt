@@ -14,7 +14,7 @@ use Rattle.expression_runs.specs.Assignments.{setting_around}
 use Rattle.expression_runs.specs.Laws as L
 use Rattle.expression_runs.specs.Values.{Setting}
 use Rattle.expression_runs.specs.Variables.{IsNumber, Spot}
-use Rattle.element_runs.specs.Arrays.{IsArray}
+use Rattle.array_runs.specs.Arrays.{IsArray}
 use Rattle.argument_runs.specs.Parameters.{IsParameter}
 use Rattle.test_runs.specs.Tests.{Tests}
 use Rattle.number_runs.specs.Knowledge.{AreAround, AreStanding, HasFrame, HasLists, IsReady, IsUnraised, KnowsLists}

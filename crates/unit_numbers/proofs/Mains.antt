@@ -35,7 +35,7 @@ use Rattle.expression_runs.specs.Variables.{IsNumber, Spot, variable_of}
 use Rattle.pli_headline.specs.Headline.{FitsMemory, parts}
 use Rattle.variable_runs.specs.Lists.{AreAllBegun, all_made, behind_made, layer_after, layer_behind}
 use Rattle.well_formed_trees.specs.WellFormed.{HasMain}
-use Rattle.element_runs.specs.Arrays.{IsArray}
+use Rattle.array_runs.specs.Arrays.{IsArray}
 use Rattle.scalar_runs.specs.Scalars.{IsScalar}
 use Rattle.number_runs.specs.Arrays.{is_array_if}
 use Rattle.number_runs.specs.Narrow.{is_narrow_if}
@@ -43,7 +43,7 @@ use Rattle.number_runs.specs.Numbers.{Scope, bounds_known, has_none, is_array_kn
 use Rattle.number_runs.specs.Numbers.{is_narrow_known, type_known}
 use Rattle.number_runs.specs.Statements.{statements_need, statements_set}
 use Rattle.number_runs.specs.Variables.{HasWords, HaveRoom, IsOwnArray, IsOwnNarrow, IsOwnWord, bytes_of, words_in}
-use Rattle.number_runs.proofs.Takes.{Sets}
+use Rattle.number_runs.proofs.Sets.{Sets}
 use Rattle.number_runs.proofs.Words.{all_words, own_array, own_narrow, own_word, room_behind, room_fewer}
 use Rattle.number_headlines.specs.Programs.{are_all_plain, body_of, has_result, most_waiting, most_words}
 use Rattle.number_headlines.specs.Programs.{places_to}

@@ -33,14 +33,15 @@ use Rattle.program_runs.specs.Statements.{IsBegun, Outer, as_outer}
 use Rattle.expression_runs.specs.Assignments.{setting_around}
 use Rattle.expression_runs.specs.Values.{Setting}
 use Rattle.expression_runs.specs.Variables.{IsNumber, Spot}
-use Rattle.element_runs.specs.Arrays.{IsArray}
+use Rattle.array_runs.specs.Arrays.{IsArray}
 use Rattle.scalar_runs.specs.Scalars.{IsScalar}
-use Rattle.element_runs.proofs.Outer.{outer_array}
+use Rattle.array_runs.proofs.Outer.{outer_array}
 use Rattle.block_headlines.proofs.Constants.{called_of_program}
 use Rattle.number_runs.specs.Numbers.{bounds_known, is_array_known, is_known, is_narrow_known, type_known}
 use Rattle.number_runs.proofs.Narrow.{outer_narrow}
 use Rattle.number_runs.specs.Statements.{statements_need, statements_set}
-use Rattle.number_runs.proofs.Takes.{Sets, statements_taken}
+use Rattle.number_runs.proofs.Sets.{Sets}
+use Rattle.number_runs.proofs.Takes.{statements_taken}
 use Rattle.number_headlines.proofs.Running.{free_among, table_later}
 use Rattle.number_headlines.proofs.Tables.{block_plain}
 use Rattle.unit_runs.specs.Establishing.{OnUnit, unit_index, unit_of}

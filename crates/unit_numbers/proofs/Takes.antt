@@ -14,7 +14,8 @@ use Rattle.number_runs.specs.Numbers.{Scope, test_needs, test_sets}
 use Rattle.number_runs.specs.Statements.{is_line, is_statement, statement_needs, statement_sets}
 use Rattle.number_runs.specs.Statements.{statements_need, statements_set}
 use Rattle.number_runs.specs.Variables.{are_plain}
-use Rattle.number_runs.proofs.Takes.{Sets, statement_taken, test_taken}
+use Rattle.number_runs.proofs.Sets.{Sets}
+use Rattle.number_runs.proofs.Takes.{statement_taken, test_taken}
 use Rattle.number_runs.proofs.Uncounted.{block_taken}
 use Rattle.unit_numbers.specs.Programs.{are_steps, is_plain_step, is_step, is_step_test}
 use Rattle.unit_numbers.specs.Calls.{scope_in}
