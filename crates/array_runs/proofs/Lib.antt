@@ -6,6 +6,7 @@ pub mod ArrayMeaning
 pub mod ArrayPoints
 pub mod Evaluating
 pub mod Elements
+pub mod Asked
 pub mod ArrayAssigned
 pub mod Assignments
 pub mod Outer
