@@ -1,6 +1,6 @@
 -- Arrays of FIXED BINARY of any precision and of BIT(1), with one dimension or more of constant bounds, and their
 -- elements.
-use Rattle.std.specs.Prelude.{ℕ, ◌<◌, ◌≤◌, List, [], ◌∷◌, length, map, None, ⊤}
+use Rattle.std.specs.Prelude.{ℕ, ◌≡◌, ◌<◌, ◌≤◌, List, [], ◌∷◌, length, map, None, slice_get, Some, ⊤}
 use Rattle.pli_language.specs.Tree as T
 use Rattle.pli_typing.specs.Signatures.{Bounds}
 use Rattle.pli_typing.specs.TypedTree as Y
@@ -40,6 +40,10 @@ element x subscripts = Y.Referring (variable_of x) Y.NotLocated whole_part subsc
 abbrev pub AreBounds : List Bounds → Type 0
 AreBounds [] = ⊤
 AreBounds (b ∷ bs) = IsBounds b × AreBounds bs
+
+-- those of one dimension, from 0
+abbrev pub IsDimension : List Bounds → (dimension : ℕ) → Bounds → Type 0
+IsDimension bs dimension b = slice_get bs dimension ≡ Some b
 
 -- FIXED BINARY of at most 31 bits, or BIT(1)
 abbrev pub IsElementType : Y.LeafType → Type 0

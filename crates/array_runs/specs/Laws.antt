@@ -1,17 +1,18 @@
 -- The laws of elements of arrays with dimensions, at the points of a block.
-use Rattle.std.specs.Prelude.{ℕ, ◌≡◌, List, max}
+use Rattle.std.specs.Prelude.{ℕ, suc, ◌≡◌, List, max}
+use Rattle.pli_typing.specs.Signatures.{Bounds}
 use Rattle.pli_typing.specs.TypedTree as Y
 use Rattle.pli_meaning.specs.Control.{Label}
 use Rattle.program_runs.specs.Statements.{Block, DoesWith, IsBegun}
 use Rattle.expression_runs.specs.Assignments.{setting_around}
 use Rattle.expression_runs.specs.Laws as L
 use Rattle.expression_runs.specs.Values.{Setting}
-use Rattle.expression_runs.specs.Variables.{Spot}
+use Rattle.expression_runs.specs.Variables.{Spot, whole}
 use Rattle.test_runs.specs.Tests.{Tests}
 use Rattle.element_runs.specs.Subscripts.{SubscriptComes}
 use Rattle.scalar_runs.specs.Assignments.{IsPlacedWith}
 use Rattle.scalar_runs.specs.Fitted.{Fits}
-use Rattle.array_runs.specs.Arrays.{Grid, IsArray, element}
+use Rattle.array_runs.specs.Arrays.{Grid, IsArray, IsDimension, element}
 use Rattle.array_runs.specs.Subscripts.{AreSubscripts}
 
 -- an element in an expression: its subscripts come in their order, and each is then tested against its bounds
@@ -24,6 +25,18 @@ pub record ArraysDo : Type 0 where
       (k : Setting) (x : Spot) (g : Grid) (subscripts : Y.Numbers) (need : ℕ) → IsBegun k.block →
       IsArray k.block x g → g.type ≡ Y.BitLeaf → SubscriptComes k → AreSubscripts k 0 need g.bounds subscripts →
       Tests k need (Y.BitIn (element x subscripts))
+
+-- LBOUND, HBOUND and DIM of an array, by its dimensions from 1
+pub record BoundsDo : Type 0 where
+  pub lower :
+      (k : Setting) (x : Spot) (g : Grid) (n : ℕ) (b : Bounds) → IsArray k.block x g → IsDimension g.bounds n b →
+      L.Does k 0 (Y.LowerBound (whole x) (suc n))
+  pub upper :
+      (k : Setting) (x : Spot) (g : Grid) (n : ℕ) (b : Bounds) → IsArray k.block x g → IsDimension g.bounds n b →
+      L.Does k 0 (Y.UpperBound (whole x) (suc n))
+  pub elements :
+      (k : Setting) (x : Spot) (g : Grid) (n : ℕ) (b : Bounds) → IsArray k.block x g → IsDimension g.bounds n b →
+      L.Does k 0 (Y.ElementsOf (whole x) (suc n))
 
 -- ---- assignments
 

@@ -1,10 +1,11 @@
 -- Arrays that the class admits: what is declared, references to elements, and their subscripts.
-use Rattle.std.proofs.Common.{◌≡◌, ◌⊎◌, inl, inr, ℕ, ◌+◌, ◌^◌, ◌<◌, ◌≤◌, List, [], ◌∷◌, length, Option, None, Some}
+use Rattle.std.proofs.Common.{◌≡◌, ◌⊎◌, inl, inr, ℕ, zero, suc, ◌+◌, ◌^◌, ◌<◌, ◌≤◌, List, [], ◌∷◌, length, Option, None, Some}
 use Rattle.std.proofs.Common.{Bool, false, true, refl, sym, ap, ◌∙◌, subst, arith}
-use Rattle.std.specs.Prelude.{◌&&◌, ◌||◌, ◌==◌, int_le, map, max, nat_le, nat_lt, suc}
+use Rattle.std.specs.Prelude.{◌&&◌, ◌||◌, ◌==◌, int_le, map, max, nat_le, nat_lt}
 use Rattle.std.proofs.lemmas.Bool.{and_parts, eqb-true, leb-true, ltb-true, or_cases}
 use Rattle.std.specs.List.{list_any}
 use Rattle.pli_language.specs.Tree as T
+use Rattle.pli_typing.specs.Signatures.{Bounds}
 use Rattle.pli_typing.specs.TypedTree as Y
 use Rattle.pli_meaning.specs.Numbers.{is_of_precision}
 use Rattle.pli_meaning.specs.DeclaredShapes.{amount_of, bounds_of, declared_variable}
@@ -14,20 +15,21 @@ use Rattle.activation_relation.specs.Layers.{Layer}
 use Rattle.program_runs.specs.Statements.{Block}
 use Rattle.expression_runs.specs.Laws.{Does}
 use Rattle.expression_runs.specs.Values.{Setting}
-use Rattle.expression_runs.specs.Variables.{Spot, variable_of}
+use Rattle.expression_runs.specs.Variables.{Spot, variable_of, whole}
 use Rattle.counter_runs.specs.Words.{telling}
 use Rattle.counter_runs.proofs.Known.{known_told}
 use Rattle.element_runs.specs.Arrays.{IsBounds, constant_bounds}
 use Rattle.scalar_runs.specs.Scalars.{IsScalar}
-use Rattle.array_runs.specs.Arrays.{AreBounds, Grid, IsArray, IsElementType, element, grid_declared}
+use Rattle.array_runs.specs.Arrays.{AreBounds, Grid, IsArray, IsDimension, IsElementType, element, grid_declared}
 use Rattle.array_runs.specs.Subscripts.{IsSimple, IsSubscript}
+use Rattle.array_runs.proofs.Asked.{elements_does, lower_does, upper_does}
 use Rattle.array_runs.proofs.Outer.{outer_array}
 use Rattle.number_runs.specs.Initial.{are_values, values_in, values_of}
 use Rattle.number_runs.specs.Arrays.{are_all_bounds, are_bounds, array_bounds, bounds_if, bounds_in, is_array, is_array_if}
 use Rattle.number_runs.specs.Arrays.{has_dimensions, is_array_of, is_element_type, is_grid}
 use Rattle.number_runs.specs.Knowledge.{KnowsNumbers}
 use Rattle.number_runs.specs.Narrow.{is_number_type}
-use Rattle.number_runs.specs.Numbers.{Scope, bounds_known, is_array_known, is_automatic, is_element, is_given}
+use Rattle.number_runs.specs.Numbers.{Scope, bounds_known, is_array_known, is_asked, is_automatic, is_element, is_given}
 use Rattle.number_runs.specs.Numbers.{is_grid_with, is_item, is_narrow_with, is_number, is_place, is_reference, is_variable}
 use Rattle.number_runs.specs.Numbers.{number_needs, spot_of, type_known}
 use Rattle.number_runs.proofs.Narrow.{narrow_with_is, number_type_is}
@@ -205,6 +207,86 @@ element_is s test v part subscripts h =
       many = eqb-true (length g.bounds) (given_in subscripts) f.1;
       may = d.0;
     }
+
+-- all of one, and a dimension of it
+pub record IsAskedOf (s : Scope) (r : Y.Reference) (dimension : ℕ) : Type 0 where
+  pub spot : Spot
+  pub is : r ≡ whole spot
+  pub known : is_array_known s spot ≡ true
+  pub may : s.elements ≡ true
+  pub place : ℕ
+  pub from : dimension ≡ suc place
+  pub bounds : Bounds
+  pub there : IsDimension (bounds_known s spot).bounds place bounds
+
+dimension_there : (bs : List Bounds) (n : ℕ) → n < length bs → (b : Bounds) × IsDimension bs n b
+dimension_there [] n less = absurd (omega (arith, less))
+dimension_there (b ∷ bs) zero less = (b, refl)
+dimension_there (b ∷ bs) (suc n) less = dimension_there bs n (omega (arith, less))
+
+counted_from : (dimension : ℕ) → 0 < dimension → (n : ℕ) × (dimension ≡ suc n)
+counted_from zero some = absurd (omega (arith, some))
+counted_from (suc n) some = (n, refl)
+
+pub asked_is :
+    (s : Scope) (r : Y.Reference) (dimension : ℕ) → is_asked s r dimension ≡ true → IsAskedOf s r dimension
+asked_is s (Y.Referring v Y.NotLocated part Y.NoNumber) dimension h =
+    let known = is_array_known s (spot_of v) in
+    let bs = (bounds_known s (spot_of v)).bounds in
+    let within = nat_lt 0 dimension && nat_le dimension (length bs) in
+    let all = (part.first == 0) && ((part.count == 1) && (known && within)) in
+    let d = and_parts s.elements (is_automatic v.class && all) h in
+    let a = and_parts (is_automatic v.class) all d.1 in
+    let b = and_parts (part.first == 0) ((part.count == 1) && (known && within)) a.1 in
+    let c = and_parts (part.count == 1) (known && within) b.1 in
+    let e = and_parts known within c.1 in
+    let f = and_parts (nat_lt 0 dimension) (nat_le dimension (length bs)) e.1 in
+    let n = counted_from dimension (ltb-true 0 dimension f.0) in
+    let from = n.1 in
+    let most = leb-true dimension (length bs) f.1 in
+    let t = dimension_there bs n.0 (omega (arith, from, most)) in
+    record {
+      spot = spot_of v;
+      is =
+          ap (λ k. Y.Referring (record v { class = k }) Y.NotLocated part Y.NoNumber) (automatic_is v.class a.0)
+          ∙ ap (λ p. Y.Referring (variable_of (spot_of v)) Y.NotLocated p Y.NoNumber) (part_is part b.0 c.0);
+      known = e.0;
+      may = d.0;
+      place = n.0;
+      from = n.1;
+      bounds = t.0;
+      there = t.1;
+    }
+asked_is s (Y.Referring v Y.NotLocated part (Y.NumberThen first rest)) dimension h = absurd (cc h)
+asked_is s (Y.Referring v (Y.LocatedBy p) part subscripts) dimension h = absurd (cc h)
+
+-- LBOUND, HBOUND and DIM
+pub lower_known :
+    (s : Scope) (k : Setting) (r : Y.Reference) (dimension : ℕ) → KnowsNumbers s k → is_asked s r dimension ≡ true →
+    Does k 0 (Y.LowerBound r dimension)
+lower_known s k r dimension h is =
+    let w = asked_is s r dimension is in
+    subst (λ q. Does k 0 (Y.LowerBound q dimension)) (sym w.is)
+    (subst (λ n. Does k 0 (Y.LowerBound (whole w.spot) n)) (sym w.from)
+    (lower_does k w.spot (bounds_known s w.spot) w.place w.bounds (h.arrays w.may w.spot w.known) w.there))
+
+pub upper_known :
+    (s : Scope) (k : Setting) (r : Y.Reference) (dimension : ℕ) → KnowsNumbers s k → is_asked s r dimension ≡ true →
+    Does k 0 (Y.UpperBound r dimension)
+upper_known s k r dimension h is =
+    let w = asked_is s r dimension is in
+    subst (λ q. Does k 0 (Y.UpperBound q dimension)) (sym w.is)
+    (subst (λ n. Does k 0 (Y.UpperBound (whole w.spot) n)) (sym w.from)
+    (upper_does k w.spot (bounds_known s w.spot) w.place w.bounds (h.arrays w.may w.spot w.known) w.there))
+
+pub elements_known :
+    (s : Scope) (k : Setting) (r : Y.Reference) (dimension : ℕ) → KnowsNumbers s k → is_asked s r dimension ≡ true →
+    Does k 0 (Y.ElementsOf r dimension)
+elements_known s k r dimension h is =
+    let w = asked_is s r dimension is in
+    subst (λ q. Does k 0 (Y.ElementsOf q dimension)) (sym w.is)
+    (subst (λ n. Does k 0 (Y.ElementsOf (whole w.spot) n)) (sym w.from)
+    (elements_does k w.spot (bounds_known s w.spot) w.place w.bounds (h.arrays w.may w.spot w.known) w.there))
 
 -- ---- subscripts
 

@@ -62,7 +62,7 @@ use Rattle.number_runs.specs.Numbers.{numbers_set, reference_needs, reference_se
 use Rattle.number_runs.specs.Numbers.{is_item, is_narrow_with, is_precision, is_text, subscripts_need, text_needs, without_given}
 use Rattle.number_runs.specs.Numbers.{IsBare, is_known, is_passed, is_received, without_located}
 use Rattle.number_runs.specs.Narrow.{is_bit, is_number_type, is_text_type}
-use Rattle.number_runs.proofs.Arrays.{array_told, element_is, subscript_given}
+use Rattle.number_runs.proofs.Arrays.{array_told, element_is, elements_known, lower_known, subscript_given, upper_known}
 use Rattle.number_runs.proofs.Narrow.{bit_is, flag_does, narrow_does, narrow_told, narrow_with_is, number_type_is}
 use Rattle.number_runs.proofs.Narrow.{text_known, text_type_is}
 use Rattle.list_calls.proofs.ParametersPassed.{parameter_told, parameters_passed}
@@ -511,9 +511,10 @@ mutual
       alone_does k (Y.VerifyOf x y) (max (text_needs x) (text_needs y))
       (verify_finds [] k x y (text_needs x) (text_needs y) (text_does [] g k x (numbers_without h) (refl, refl) a.0 b.0)
       (λ t. text_does (TextEntry t ∷ []) g k y (numbers_without h) (refl, refl) a.0 b.1))
-  number_does s k (Y.LowerBound r n) h is room = absurd (cc is)
-  number_does s k (Y.UpperBound r n) h is room = absurd (cc is)
-  number_does s k (Y.ElementsOf r n) h is room = absurd (cc is)
+  number_does s k (Y.LowerBound r n) h is room = lower_known s k r n h is
+  number_does s k (Y.UpperBound r n) h is room = upper_known s k r n h is
+  number_does s k (Y.ElementsOf r n) h is room =
+      more_registers k 0 1 (Y.ElementsOf r n) (omega arith) (elements_known s k r n h is)
   number_does s k (Y.AllocationsOf v) h is room = absurd (cc is)
   number_does s k Y.OnCode h is room = code_does k (h.codes is)
 

@@ -26,7 +26,7 @@ use Rattle.number_runs.specs.Counting.{count_needs, count_sets, is_count, limit_
 use Rattle.number_runs.specs.Counting.{start_sets}
 use Rattle.number_runs.specs.Numbers.{Scope, are_arguments, are_numbers, argument_needs, argument_sets}
 use Rattle.number_runs.specs.Numbers.{arguments_need, arguments_set, call_needs, call_sets, gives_lists, is_argument}
-use Rattle.number_runs.specs.Numbers.{is_element, is_fixed, is_given, is_number, is_reference, is_test}
+use Rattle.number_runs.specs.Numbers.{is_asked, is_element, is_fixed, is_given, is_number, is_reference, is_test}
 use Rattle.number_runs.specs.Numbers.{is_variable, may_calculate, number_needs, number_sets}
 use Rattle.number_runs.specs.Numbers.{numbers_need, numbers_set, reference_needs, reference_sets, test_needs, test_sets}
 use Rattle.number_runs.specs.Narrow.{has_precision, is_bit, is_number_type, is_text_type}
@@ -39,7 +39,7 @@ use Rattle.number_runs.specs.Statements.{are_statements, behind_stored, is_line,
 use Rattle.number_runs.specs.Statements.{statement_needs}
 use Rattle.number_runs.specs.Statements.{statement_sets, statements_need, statements_set, stored_needs, stored_sets}
 use Rattle.number_runs.specs.Statements.{allocation_sets, freeing_sets, is_allocation, is_freeing}
-use Rattle.number_runs.proofs.Arrays.{element_is}
+use Rattle.number_runs.proofs.Arrays.{asked_is, element_is}
 use Rattle.number_runs.proofs.Based.{allocation_is, freeing_is, through_is}
 use Rattle.number_runs.proofs.Counters.{IsCounting, counting_is, counting_of, statement_is}
 use Rattle.number_runs.proofs.Narrow.{narrow_with_is}
@@ -133,6 +133,14 @@ named_taken s r t (inl h) one item = one h
 named_taken s r t (inr h) one item =
     narrow_or_item s is_number_type r t
     (or_cases (is_narrow_with s is_number_type r) (is_item s is_number_type r) h) item
+
+-- of a dimension
+asked_taken :
+    (s : Scope) (r : Y.Reference) (dimension : ℕ) (t : Taken) → is_asked s r dimension ≡ true →
+    Sets 0 0 t (reference_takes t r)
+asked_taken s r dimension t h =
+    let w = asked_is s r dimension h in
+    subst (λ q. Sets 0 0 t (reference_takes t q)) (sym w.is) (whole_takes t w.spot)
 
 -- an element, whose subscripts wait
 element_taken :
@@ -234,9 +242,10 @@ mutual
       let a = and_parts (is_text g x) (is_text g y) (and_parts s.texts (is_text g x && is_text g y) h).1 in
       two_texts_taken x y t (text_taken g x t (refl, refl) a.0 (omega (arith, fits)))
       (text_taken g y t (refl, refl) a.1 (omega (arith, fits)))
-  number_taken s (Y.LowerBound r n) t h fits = absurd (cc h)
-  number_taken s (Y.UpperBound r n) t h fits = absurd (cc h)
-  number_taken s (Y.ElementsOf r n) t h fits = absurd (cc h)
+  number_taken s (Y.LowerBound r n) t h fits = asked_taken s r n t h
+  number_taken s (Y.UpperBound r n) t h fits = asked_taken s r n t h
+  number_taken s (Y.ElementsOf r n) t h fits =
+      sets_signed 0 0 t (reference_takes t r) (omega (arith, fits)) (asked_taken s r n t h)
   number_taken s (Y.AllocationsOf v) t h fits = absurd (cc h)
   number_taken s Y.OnCode t h fits = sets_none t
 

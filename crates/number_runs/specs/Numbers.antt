@@ -198,6 +198,17 @@ is_element s test v part count =
     && ((part.count == 1)
     && (is_array_known s (spot_of v) && is_grid_with test count (bounds_known s (spot_of v))))))
 
+-- a dimension of one, from 1
+abbrev pub is_asked : Scope → Y.Reference → (dimension : ℕ) → Bool
+is_asked s (Y.Referring v Y.NotLocated part Y.NoNumber) dimension =
+    s.elements
+    && (is_automatic v.class
+    && ((part.first == 0)
+    && ((part.count == 1)
+    && (is_array_known s (spot_of v)
+    && (nat_lt 0 dimension && nat_le dimension (length (bounds_known s (spot_of v)).bounds))))))
+is_asked s _ dimension = false
+
 -- ---- what pointers lead to
 
 -- a pointer of one of these blocks, an area of one, and a number that is BASED
@@ -280,6 +291,9 @@ abbrev mutual
       s.texts && (is_text (without_given s) searched && is_text (without_given s) sought)
   is_number s (Y.VerifyOf searched allowed) =
       s.texts && (is_text (without_given s) searched && is_text (without_given s) allowed)
+  is_number s (Y.LowerBound r dimension) = is_asked s r dimension
+  is_number s (Y.UpperBound r dimension) = is_asked s r dimension
+  is_number s (Y.ElementsOf r dimension) = is_asked s r dimension
   is_number s Y.OnCode = s.codes
   is_number s _ = false
 
@@ -349,6 +363,7 @@ abbrev mutual
   number_needs (Y.LengthOf x) = text_needs x
   number_needs (Y.IndexOf searched sought) = max (text_needs searched) (text_needs sought)
   number_needs (Y.VerifyOf searched allowed) = max (text_needs searched) (text_needs allowed)
+  number_needs (Y.ElementsOf r dimension) = 1
   number_needs _ = 0
 
   pub reference_needs : Y.Reference → ℕ
