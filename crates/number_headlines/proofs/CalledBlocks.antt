@@ -3,7 +3,6 @@
 use Rattle.std.proofs.Common.{◌≡◌, ℕ, suc, ◌+◌, ◌≤◌, List, [], ◌∷◌, Bool}
 use Rattle.std.proofs.Common.{true}
 use Rattle.std.proofs.Common.{false, refl, sym, ap, ◌∙◌, arith}
-use Rattle.pli_typing.specs.Signatures.{Bounds}
 use Rattle.pli_typing.specs.TypedTree as Y
 use Rattle.pli_meaning.specs.DeclaredShapes.{declared_variable, variables_of_block}
 use Rattle.pli_meaning.specs.StorageState.{automatic_in_use, most_automatic}
@@ -23,9 +22,9 @@ use Rattle.program_runs.specs.Starts.{image_parts}
 use Rattle.program_runs.specs.Statements.{Block, IsAmong, IsBegun}
 use Rattle.program_runs.specs.Variables.{Declared}
 use Rattle.expression_runs.specs.Variables.{IsNumber, Spot, variable_of}
-use Rattle.element_runs.specs.Arrays.{IsArray}
+use Rattle.array_runs.specs.Arrays.{Grid, IsArray}
 use Rattle.scalar_runs.specs.Scalars.{IsScalar}
-use Rattle.element_runs.proofs.Outer.{outer_array}
+use Rattle.array_runs.proofs.Outer.{outer_array}
 use Rattle.variable_runs.specs.Lists.{AreAllBegun, all_made, behind_made, layer_behind}
 use Rattle.variable_runs.proofs.Lists.{all_begun}
 use Rattle.nested_calls.specs.Nested.{IsNested, parent_at}
@@ -310,7 +309,7 @@ pub outer_array_by :
     (i : Inner m a.head [] v level number) (call : ℕ) →
     DontPass (block_of_run program input acts valued (suc more) a) i →
     IsBegun (block_of_run program input acts v more
-    (entered_at i (block_of_run program input acts valued (suc more) a) call p numbers)) → (x : Spot) (s : Bounds) →
+    (entered_at i (block_of_run program input acts valued (suc more) a) call p numbers)) → (x : Spot) (s : Grid) →
     x.level ≤ level → IsArray (block_of_run program input acts valued (suc more) a) x s →
     IsArray (block_of_run program input acts v more
     (entered_at i (block_of_run program input acts valued (suc more) a) call p numbers)) x s

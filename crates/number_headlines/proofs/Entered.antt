@@ -32,7 +32,7 @@ use Rattle.program_runs.specs.Procedures.{layer_for}
 use Rattle.program_runs.specs.Starts.{image_parts}
 use Rattle.program_runs.specs.Statements.{Block, IsBegun}
 use Rattle.expression_runs.specs.Variables.{IsNumber, Spot, number_declared, variable_of}
-use Rattle.element_runs.specs.Arrays.{IsArray}
+use Rattle.array_runs.specs.Arrays.{IsArray}
 use Rattle.scalar_runs.specs.Scalars.{IsScalar}
 use Rattle.variable_runs.specs.Lists.{layer_after}
 use Rattle.block_headlines.proofs.Constants.{called_of_program}

@@ -32,7 +32,7 @@ use Rattle.program_runs.specs.Starts.{image_parts, no_numbers}
 use Rattle.program_runs.specs.Statements.{EachDoes, IsBegun}
 use Rattle.program_runs.specs.Variables.{Declared, generation_for}
 use Rattle.expression_runs.specs.Variables.{IsNumber, Spot, number_declared, variable_of}
-use Rattle.element_runs.specs.Arrays.{IsArray}
+use Rattle.array_runs.specs.Arrays.{IsArray}
 use Rattle.scalar_runs.specs.Scalars.{IsScalar}
 use Rattle.variable_runs.specs.Lists.{all_made, behind_made, layer_after, layer_behind}
 use Rattle.variable_runs.proofs.Lists.{all_begun, all_serials}

@@ -5,7 +5,6 @@ use Rattle.std.specs.Prelude.{◌||◌, ◌==◌, nat_lt, slice_get, if◌then�
 use Rattle.std.specs.List.{list_any}
 use Rattle.std.proofs.lemmas.Bool.{and_from, and_parts, eqb-true, ltb-true}
 use Rattle.pli_language.specs.declared.condition.Condition.{Condition}
-use Rattle.pli_typing.specs.Signatures.{Bounds}
 use Rattle.pli_typing.specs.TypedTree as Y
 use Rattle.pli_meaning.specs.DeclaredShapes.{declared_variable, variables_of_block}
 use Rattle.pli_meaning.specs.StorageState.{Activation, automatic_in_use, force, most_activations}
@@ -27,10 +26,10 @@ use Rattle.program_runs.proofs.Constants.{constants_among, constants_begun}
 use Rattle.program_runs.specs.Starts.{image_parts}
 use Rattle.program_runs.specs.Variables.{Declared}
 use Rattle.expression_runs.specs.Variables.{IsNumber, Spot, variable_of, number_declared}
-use Rattle.element_runs.specs.Arrays.{IsArray}
+use Rattle.array_runs.specs.Arrays.{Grid, IsArray}
 use Rattle.scalar_runs.specs.Scalars.{IsScalar}
-use Rattle.element_runs.proofs.Outer.{outer_array}
 use Rattle.argument_runs.specs.Parameters.{parameter_declared, parameter_of}
+use Rattle.array_runs.proofs.Outer.{outer_array}
 use Rattle.list_calls.specs.Arguments.{ComeTo}
 use Rattle.list_calls.specs.ListCalls.{Listed}
 use Rattle.list_calls.specs.ListKnown.{AreStored, Begins}
@@ -375,7 +374,7 @@ given_arrays {program} m {input} {acts} {valued} {more} {b} {a} {ns} {v} {level}
     around' : Bool
     around' = list_any (is_place x) (places_to (environment_for program a.head) a.head.level)
 
-    bounds : Bounds
+    bounds : Grid
     bounds = bounds_if (declared_variable program (variable_of x))
 
     parts :

@@ -34,7 +34,7 @@ use Rattle.well_formed_trees.specs.WellFormed.{HasMain}
 use Rattle.pli_headline.specs.Headline.{FitsMemory, parts}
 use Rattle.block_headlines.specs.Constants.{IsOf}
 use Rattle.block_headlines.proofs.Constants.{main_of_program}
-use Rattle.element_runs.specs.Arrays.{IsArray}
+use Rattle.array_runs.specs.Arrays.{IsArray}
 use Rattle.scalar_runs.specs.Scalars.{IsScalar}
 use Rattle.number_runs.specs.Numbers.{has_none}
 use Rattle.number_runs.specs.Statements.{are_statements, begins_need, statements_need, statements_set}

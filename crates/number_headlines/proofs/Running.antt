@@ -35,11 +35,11 @@ use Rattle.program_runs.specs.Statements.{Block, EachDoes, IsAmong, IsBegun, Out
 use Rattle.program_runs.proofs.Waiting.{begun_waits}
 use Rattle.expression_runs.specs.Variables.{IsNumber, Spot}
 use Rattle.text_runs.proofs.Waiting.{number_waits}
-use Rattle.element_runs.specs.Arrays.{IsArray}
+use Rattle.array_runs.specs.Arrays.{IsArray}
 use Rattle.scalar_runs.specs.Scalars.{IsScalar}
 use Rattle.function_runs.specs.Functions.{function_entry}
 use Rattle.parameter_runs.specs.Around.{IsParameterAround}
-use Rattle.counter_runs.proofs.Known.{array_told, number_told}
+use Rattle.counter_runs.proofs.Known.{number_told}
 use Rattle.counter_runs.proofs.Words.{begun_telling}
 use Rattle.begin_runs.specs.ThroughReturns.{AreBegins}
 use Rattle.block_headlines.specs.Constants.{IsOf}
@@ -52,6 +52,7 @@ use Rattle.number_runs.specs.Numbers.{is_area_known, is_pointer_known}
 use Rattle.number_runs.specs.Numbers.{bounds_known, is_array_known, is_known, is_narrow_known, is_received, type_known}
 use Rattle.number_runs.proofs.BeginsSaved.{begins_held}
 use Rattle.number_runs.proofs.BlocksTaken.{registers_held}
+use Rattle.number_runs.proofs.Arrays.{array_told}
 use Rattle.number_runs.proofs.Narrow.{narrow_told}
 use Rattle.number_runs.specs.Statements.{are_statements, begins_need, statements_need, statements_set}
 use Rattle.number_runs.specs.Variables.{AreTabled}

@@ -9,6 +9,7 @@ use Rattle.std.proofs.lemmas.Bool.{and_from, and_parts, eq-eqb, le-leb, leb-true
 use Rattle.rv_meaning.specs.Tables.{AreSignatures, IsSignature, TableSignature, run_time_size, size_fits}
 use Rattle.rv_meaning.specs.declared.image.TableKind.TheVariants as K
 use Rattle.run_steps.proofs.Numbers.{word_small}
+use Rattle.pli_language.specs.Tree as T
 use Rattle.pli_typing.specs.Signatures.{Bounds}
 use Rattle.pli_typing.specs.TypedTree as Y
 use Rattle.pli_meaning.specs.DeclaredShapes.{variables_of_block, shape_of}
@@ -19,9 +20,9 @@ use Rattle.pli_coding.specs.Environments.{Environment}
 use Rattle.pli_coding.specs.SignatureTable.{capacity_size, number_in_table, signature_of, table_of, with_signatures}
 use Rattle.well_formed_trees.specs.Every.{Every}
 use Rattle.storage_relation.proofs.Holders.{eqb-other}
-use Rattle.storage_relation.specs.Tables.{AreRuled}
-use Rattle.pli_headline.specs.ProvedSoFar.{IsScalar, Kind, text_leaf}
-use Rattle.pli_headline.proofs.ArraySignatures.{array_kept}
+use Rattle.storage_relation.specs.Tables.{AreLeaves, ArePairs, AreRuled}
+use Rattle.pli_headline.specs.ProvedSoFar.{AreBounds, IsHeld, IsScalar, Kind, text_leaf}
+use Rattle.pli_headline.proofs.ArraySignatures.{array_kept, array_signed, pairs_of}
 use Rattle.pli_headline.proofs.PlainNumbers.{Numbered, numbered_shape}
 use Rattle.pli_headline.proofs.PlainSignatures.{HasAll, HasSignature, kind_signature}
 use Rattle.pli_headline.proofs.Scalars.{place_below}
@@ -29,8 +30,11 @@ use Rattle.pli_headline.proofs.SignaturesOnce.{found_any, has_every}
 use Rattle.program_places.specs.Programs.{HasStart, IsUnstatic, environment_for}
 use Rattle.program_places.specs.Tables.{IsRuled}
 use Rattle.program_places.proofs.Tables.{table_ruled}
-use Rattle.element_runs.specs.Arrays.{IsBounds, array_declared}
+use Rattle.array_runs.specs.Arrays as A
+use Rattle.array_runs.specs.Arrays.{Grid, grid_declared}
+use Rattle.array_runs.proofs.ArrayMeaning.{shape_is}
 use Rattle.scalar_runs.specs.Scalars.{scalar_declared}
+use Rattle.number_runs.specs.Arrays.{is_element_type}
 use Rattle.number_runs.specs.Narrow.{is_narrow_type}
 use Rattle.number_runs.specs.Numbers.{is_parameter}
 use Rattle.number_runs.specs.Variables.{AreTabled, IsTabled, are_any, are_known, are_plain, bytes_of, is_any}
@@ -39,6 +43,7 @@ use Rattle.number_runs.specs.Variables.{variable_bytes}
 use Rattle.area_runs.specs.Based.{pointer_declared}
 use Rattle.member_runs.specs.Members.{structure_declared}
 use Rattle.number_runs.proofs.Areas.{capacity_in}
+use Rattle.number_runs.proofs.Arrays.{IsGrid}
 use Rattle.number_runs.proofs.Based.{area_declared}
 use Rattle.number_runs.proofs.Declared.{area_takes, of_any, of_declared, sized}
 use Rattle.number_runs.proofs.Members.{based_ruled, based_shaped, based_takes}
@@ -190,8 +195,8 @@ block_has (ds ∷ vs) (suc n) table has = block_has vs n table (has_back ds (fla
 abbrev number_kind : Kind
 number_kind = record { type = Y.FixedLeaf 31; bounds = [] }
 
-abbrev array_kind : Bounds → Kind
-array_kind b = record { type = Y.FixedLeaf 31; bounds = b ∷ [] }
+abbrev grid_kind : Grid → Kind
+grid_kind g = record { type = g.type; bounds = g.bounds }
 
 number_numbered :
     (table : List TableSignature) → length table < most_signatures → HasSignature (kind_signature number_kind) table →
@@ -202,15 +207,37 @@ number_numbered table few has =
     stands in
     record { held = (omega arith, omega arith); stands = stands; few = omega (arith, most, few) }
 
+element_held : (t : Y.LeafType) → is_element_type t ≡ true → IsScalar t
+element_held (Y.FixedLeaf p) h =
+    let a = and_parts (nat_lt 0 p) (nat_le p 31) h in
+    let some = ltb-true 0 p a.0 in
+    let few = leb-true p 31 a.1 in
+    (omega (arith, some), omega (arith, few))
+element_held Y.BitLeaf h = tt
+element_held (Y.CharacterLeaf size) h = absurd (cc h)
+element_held (Y.VaryingLeaf size) h = absurd (cc h)
+element_held Y.PointerLeaf h = absurd (cc h)
+element_held (Y.OffsetLeaf area) h = absurd (cc h)
+element_held (Y.AreaLeaf size) h = absurd (cc h)
+
+bounds_held : (bs : List Bounds) → A.AreBounds bs → AreBounds bs
+bounds_held [] are = tt
+bounds_held (b ∷ bs) are = ((are.0.lower, (are.0.upper, are.0.order)), bounds_held bs are.1)
+
+array_held : (t : Y.LeafType) (bs : List Bounds) → IsScalar t → AreBounds bs → 0 < length bs → length bs ≤ 8 →
+    IsHeld t bs
+array_held t [] is are some few = absurd (omega (arith, some))
+array_held t (b ∷ bs) is are some few = (is, ((are.0, are.1), omega (arith, few)))
+
 array_numbered :
-    (table : List TableSignature) (b : Bounds) → IsBounds b → length table < most_signatures →
-    HasSignature (kind_signature (array_kind b)) table → Numbered table (array_kind b)
-array_numbered table b is few has =
-    let k = array_kind b in
+    (table : List TableSignature) (g : Grid) (initial : List T.InitialItem) → IsGrid g initial →
+    length table < most_signatures → HasSignature (kind_signature (grid_kind g)) table → Numbered table (grid_kind g)
+array_numbered table g initial is few has =
+    let k = grid_kind g in
     let stands = found_any (kind_signature k) table has in
     let most = place_below table (number_in_table (kind_signature k) table) (kind_signature k) stands in
     record {
-      held = ((omega arith, omega arith), (((is.lower, (is.upper, is.order)), tt), omega arith));
+      held = array_held g.type g.bounds (element_held g.type is.type) (bounds_held g.bounds is.bounds) is.some is.few;
       stands = stands;
       few = omega (arith, most, few);
     }
@@ -268,10 +295,13 @@ one_tabled e d is few =
     let n = number_numbered e.table few has in
     let small = n.few in
     record { small = omega (arith, small); shape = numbered_shape e.table number_kind n })
-    (λ b bounds initial fit has.
-    let n = array_numbered e.table b bounds few has in
+    (λ g initial is' has.
+    let n = array_numbered e.table g initial is' few has in
     let small = n.few in
-    record { small = omega (arith, small); shape = numbered_shape e.table (array_kind b) n })
+    record {
+      small = omega (arith, small);
+      shape = numbered_shape e.table (grid_kind g) n ∙ ap (λ u. Some u) (sym (shape_is g initial));
+    })
     (λ u is' initial fit.
     by_narrow (λ t. HasSignature (signature_of (scalar_declared t initial)) e.table →
     IsTabled e (map template_of e.table) (scalar_declared t initial))
@@ -352,11 +382,18 @@ has_table program head h =
 
 -- ---- its rules
 
-array_ruled : (b : Bounds) → IsBounds b → IsRuled (array_declared b [])
-array_ruled b is = (
-  array_kept (Y.FixedLeaf 31) (omega arith, omega arith) (b ∷ []) ((is.lower, (is.upper, is.order)), tt) (omega arith),
-  ((word_small b.lower is.lower, word_small b.upper is.upper, tt), tt),
-)
+pairs_small : (bs : List Bounds) → A.AreBounds bs → ArePairs (pairs_of bs)
+pairs_small [] are = tt
+pairs_small (b ∷ bs) are =
+    (word_small b.lower are.0.lower, word_small b.upper are.0.upper, pairs_small bs are.1)
+
+array_ruled : (g : Grid) (initial : List T.InitialItem) → IsGrid g initial → IsRuled (grid_declared g initial)
+array_ruled g initial is =
+    let held = element_held g.type is.type in
+    let few = is.few in
+    subst (λ u. IsSignature u × AreLeaves u.leaves) (sym (array_signed g.type held g.bounds initial))
+    (array_kept g.type held g.bounds (bounds_held g.bounds is.bounds) (omega (arith, few)),
+    (pairs_small g.bounds is.bounds, tt))
 
 text_ruled :
     (varying : Bool) (n : ℕ) → 0 < n → n ≤ most_text → IsRuled (scalar_declared (text_leaf varying n) [])
@@ -374,7 +411,7 @@ narrow_ruled t h =
 declared_ruled : (d : Y.DeclaredVariable) → is_declared d ≡ true → IsRuled d
 declared_ruled d h =
     of_declared IsRuled (λ initial fit. (record { headed = search rules; leaved = search rules }, (tt, tt)))
-    (λ b is initial fit. array_ruled b is) (λ t is initial fit. narrow_ruled t is) (
+    array_ruled (λ t is initial fit. narrow_ruled t is) (
       record {
         headed = refl;
         leaved = (record { sized = refl; few = omega arith; bounded = tt; placed = refl }, tt);
@@ -434,7 +471,7 @@ text_unstatic true n some few = (tt, refl)
 
 declared_unstatic : (d : Y.DeclaredVariable) → is_declared d ≡ true → IsUnstatic d
 declared_unstatic d h =
-    of_declared IsUnstatic (λ initial fit. (tt, refl)) (λ b is initial fit. (tt, refl))
+    of_declared IsUnstatic (λ initial fit. (tt, refl)) (λ g initial is. (tt, refl))
     (λ t is initial fit.
     by_narrow (λ u. IsUnstatic (scalar_declared u [])) (λ p is'. (tt, refl)) (tt, refl) text_unstatic t is) (tt, refl)
     d h

@@ -10,6 +10,7 @@ pub mod PutRows
 pub mod ArrayRows
 pub mod GivenRows
 pub mod FlagRows
+pub mod GridRows
 pub mod SumRows
 pub mod GatheredRows
 pub mod TextRows

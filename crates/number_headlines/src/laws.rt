@@ -11,6 +11,7 @@ ghost use Rattle.number_headlines.specs.EuclidRows.{EuclidKept};
 ghost use Rattle.number_headlines.specs.FlagRows.{FlagKept};
 ghost use Rattle.number_headlines.specs.GatheredRows.{GatheredKept};
 ghost use Rattle.number_headlines.specs.GivenRows.{FactKept};
+ghost use Rattle.number_headlines.specs.GridRows.{TriangleKept};
 ghost use Rattle.number_headlines.specs.Headlines.{NumberHeadlinesKept};
 ghost use Rattle.number_headlines.specs.InitialRows.{InitialKept};
 ghost use Rattle.number_headlines.specs.LentRows.{LentKept};
@@ -97,6 +98,13 @@ pub fn counting_kept()
 /// A worked row with arguments: a function calls itself with a copy, and a procedure changes its parameter.
 pub fn fact_kept()
     ensures { FactKept }
+{
+    number_headlines_kept();
+}
+
+/// A worked row with arrays of two dimensions and of bits: a triangle of sums, with a flag for each number past 2.
+pub fn triangle_kept()
+    ensures { TriangleKept }
 {
     number_headlines_kept();
 }

@@ -20,7 +20,7 @@ use Rattle.program_runs.specs.Calls.{Callee, begun_at, block_at}
 use Rattle.program_runs.specs.Procedures.{beginning_for, layer_for}
 use Rattle.program_runs.specs.Statements.{IsBegun}
 use Rattle.expression_runs.specs.Variables.{IsNumber, Spot, number_declared, variable_of}
-use Rattle.element_runs.specs.Arrays.{IsArray}
+use Rattle.array_runs.specs.Arrays.{IsArray}
 use Rattle.scalar_runs.specs.Scalars.{IsScalar}
 use Rattle.variable_runs.specs.Known.{IsKnown, IsOwn, place_of}
 use Rattle.variable_runs.specs.Lists.{Among, AreAllBegun, AreThose, all_made, layer_after}

@@ -21,7 +21,10 @@ use Rattle.number_runs.specs.Based.{is_area, is_based}
 use Rattle.number_runs.specs.Variables.{are_any, are_known, are_plain, is_any, is_declared}
 use Rattle.number_runs.proofs.Areas.{constant_area}
 use Rattle.number_runs.proofs.Based.{area_declared}
-use Rattle.number_runs.proofs.Declared.{of_any, of_declared}
+use Rattle.array_runs.specs.Arrays.{grid_declared}
+use Rattle.array_runs.proofs.ArrayCode.{constant_is}
+use Rattle.number_runs.proofs.Arrays.{type_of}
+use Rattle.number_runs.proofs.Declared.{numeric_element, of_any, of_declared}
 use Rattle.scalar_runs.specs.Scalars.{scalar_declared}
 use Rattle.number_runs.proofs.Narrow.{by_narrow}
 use Rattle.number_runs.proofs.Variables.{parameter_declared_is}
@@ -36,7 +39,9 @@ text_takes_none true n some few = refl
 
 declared_takes : (d : Y.DeclaredVariable) → is_declared d ≡ true → variable_takes d ≡ none_taken
 declared_takes d h =
-    of_declared (λ d'. variable_takes d' ≡ none_taken) (λ initial fit. refl) (λ b is initial fit. refl)
+    of_declared (λ d'. variable_takes d' ≡ none_taken) (λ initial fit. refl)
+    (λ g initial is. ap (λ q. if q then none_taken else extents_take none_taken (grid_declared g initial))
+    (constant_is g initial (numeric_element g.type (type_of is))))
     (λ t is initial fit.
     by_narrow (λ u. variable_takes (scalar_declared u []) ≡ none_taken) (λ p is'. refl) refl text_takes_none t is) refl
     d h

@@ -7,7 +7,7 @@ use Rattle.std.proofs.lemmas.Bool.{and_parts, ltb-true, or_cases}
 use Rattle.std.proofs.lemmas.Bool.Decides.{nat_tests}
 use Rattle.std.proofs.lemmas.Int.{ints}
 use Rattle.pli_language.specs.Tree as T
-use Rattle.pli_typing.specs.Signatures.{Bounds, data_size, footprint, natural, rounded_up, span}
+use Rattle.pli_typing.specs.Signatures.{data_size, footprint, rounded_up}
 use Rattle.pli_typing.specs.TypedTree as Y
 use Rattle.pli_meaning.specs.Contents.{fresh}
 use Rattle.pli_meaning.specs.DeclaredShapes.{initial_of, kind_of, shape_of}
@@ -15,11 +15,15 @@ use Rattle.pli_meaning.specs.Texts.{most_text}
 use Rattle.pli_serving.specs.Arguments.{capacity_of}
 use Rattle.pli_coding.specs.Frames.{MemoryParts, frame_bytes, has_constant_size}
 use Rattle.pli_headline.specs.ProvedSoFar.{text_leaf}
+use Rattle.pli_headline.proofs.Scalars.{IsNumeric}
 use Rattle.storage_relation.specs.Keeping.{IsSound}
 use Rattle.storage_relation.specs.Standing.{IsPlain, IsValued, leaves_of}
 use Rattle.storage_relation.specs.Telling.{AllHaveValues}
 use Rattle.expression_runs.specs.Variables.{number_declared}
-use Rattle.element_runs.specs.Arrays.{IsBounds, array_declared}
+use Rattle.array_runs.specs.Arrays.{Grid, IsElementType, grid_declared}
+use Rattle.array_runs.proofs.ArrayCode.{constant_is}
+use Rattle.array_runs.proofs.ArrayPoints.{size_is}
+use Rattle.array_runs.proofs.Counting.{count_some}
 use Rattle.number_runs.specs.Initial.{are_values, values_of}
 use Rattle.number_runs.specs.Arrays.{array_bounds, is_array}
 use Rattle.scalar_runs.specs.Scalars.{scalar_declared}
@@ -30,7 +34,7 @@ use Rattle.number_runs.specs.Based.{are_some_members, is_area, is_based, is_poin
 use Rattle.number_runs.specs.Numbers.{is_plain}
 use Rattle.number_runs.specs.Variables.{is_any, is_declared, variable_bytes}
 use Rattle.number_runs.proofs.Initial.{Starts, array_starts, array_valued, scalar_starts, scalar_valued}
-use Rattle.number_runs.proofs.Arrays.{array_is, array_values, bounds_are}
+use Rattle.number_runs.proofs.Arrays.{IsGrid, array_is, grid_of, type_of}
 use Rattle.number_runs.proofs.Based.{area_declared, area_is, based_declared_is, pointer_is}
 use Rattle.number_runs.proofs.Narrow.{by_narrow, narrow_is, narrow_values, type_is_narrow}
 use Rattle.number_runs.proofs.Variables.{plain_is, plain_values}
@@ -39,8 +43,7 @@ use Rattle.number_runs.proofs.Variables.{plain_is, plain_values}
 pub of_declared :
     (P : Y.DeclaredVariable → Type 0) →
     ((is : List T.InitialItem) → are_values (Y.FixedLeaf 31) is ≡ true → P (number_declared is)) →
-    ((b : Bounds) → IsBounds b → (is : List T.InitialItem) → are_values (Y.FixedLeaf 31) is ≡ true →
-    P (array_declared b is)) →
+    ((g : Grid) (is : List T.InitialItem) → IsGrid g is → P (grid_declared g is)) →
     ((t : Y.LeafType) → is_narrow_type t ≡ true → (is : List T.InitialItem) → are_values t is ≡ true →
     P (scalar_declared t is)) → P pointer_declared → (d : Y.DeclaredVariable) → is_declared d ≡ true → P d
 of_declared P one many few point d h = by (or_cases (is_plain d) (is_array d || (is_narrow d || is_pointer d)) h)
@@ -54,7 +57,7 @@ of_declared P one many few point d h = by (or_cases (is_plain d) (is_array d || 
     other : (is_array d ≡ true) ⊎ ((is_narrow d || is_pointer d) ≡ true) → P d
     other (inl array) =
         subst P (sym (array_is d array))
-        (many (array_bounds d) (bounds_are d array) (values_of d) (array_values d array))
+        (many (array_bounds d) (values_of d) (grid_of d array))
     other (inr rest) = last (or_cases (is_narrow d) (is_pointer d) rest)
 
     by : (is_plain d ≡ true) ⊎ ((is_array d || (is_narrow d || is_pointer d)) ≡ true) → P d
@@ -88,20 +91,18 @@ whole_sixteens : (n : ℕ) → 0 < n → ((16 + rounded_up 16 n) % 16 ≡ 0) × 
     × (16 + n ≤ 16 + rounded_up 16 n)
 whole_sixteens n some = (omega arith, omega (arith, some), omega arith)
 
-span_by : (l u : ℤ) → int_le l u ≡ true → 0 < natural (u -ℤ l +ℤ pos 1)
-span_by (pos l) (pos u) e = grind (arith, ints, nat_tests)
-span_by (pos l) (negsuc u) e = absurd (cc e)
-span_by (negsuc l) (pos u) e = grind (arith, ints, nat_tests)
-span_by (negsuc l) (negsuc u) e = grind (arith, ints, nat_tests)
+pub numeric_element : (t : Y.LeafType) → IsElementType t → IsNumeric t
+numeric_element (Y.FixedLeaf p) is = tt
+numeric_element Y.BitLeaf is = tt
+numeric_element _ is = absurd is
 
-row_sized : (n size : ℕ) → 0 < n → size ≡ 4 * (n * 1) + 0 → ((16 + rounded_up 16 size) % 16 ≡ 0)
-    × (32 ≤ 16 + rounded_up 16 size) × (16 + size ≤ 16 + rounded_up 16 size)
-row_sized n size some is = whole_sixteens size (omega (arith, some, is))
-
-array_sized : (b : Bounds) → IsBounds b → (initial : List T.InitialItem) → IsSized (array_declared b initial)
-array_sized b is initial =
-    let r = row_sized (span b) (data_size (shape_of [] (array_declared b initial)).signature)
-    (span_by b.lower b.upper is.order) refl in
+-- 4 bytes for each element
+array_sized : (g : Grid) (initial : List T.InitialItem) → IsGrid g initial → IsSized (grid_declared g initial)
+array_sized g initial is =
+    let size = size_is g initial (numeric_element g.type (type_of is)) in
+    let some = count_some g.bounds is.bounds in
+    let r = whole_sixteens (data_size (shape_of [] (grid_declared g initial)).signature)
+    (omega (arith, size, some)) in
     record { even = r.0; some = r.1; holds = r.2 }
 
 -- a scalar of fewer bits takes a word
@@ -145,7 +146,7 @@ area_takes n some = omega (arith, some)
 pub sized : (d : Y.DeclaredVariable) → is_declared d ≡ true → IsSized d
 sized d h =
     of_declared IsSized (λ initial fit. record { even = refl; some = omega arith; holds = omega arith })
-    (λ b is initial fit. array_sized b is initial) (λ t is initial fit. narrow_sized t is initial)
+    (λ g initial is. array_sized g initial is) (λ t is initial fit. narrow_sized t is initial)
     (record { even = refl; some = omega arith; holds = omega arith }) d h
 
 -- ---- how it is made
@@ -166,21 +167,54 @@ pub record IsMakeable (d : Y.DeclaredVariable) : Type 0 where
       }))
       ≡ variable_bytes d
 
+pub element_sound : (t : Y.LeafType) → IsElementType t → IsSound (kind_of [] t)
+element_sound (Y.FixedLeaf p) is = is
+element_sound Y.BitLeaf is = tt
+element_sound _ is = absurd is
+
+by_element :
+    (P : Y.LeafType → Type 0) → ((p : ℕ) → p ≤ 31 → P (Y.FixedLeaf p)) → P Y.BitLeaf → (t : Y.LeafType) →
+    IsElementType t → P t
+by_element P fixed bit (Y.FixedLeaf p) is = fixed p is
+by_element P fixed bit Y.BitLeaf is = bit
+by_element P fixed bit _ is = absurd is
+
 array_makeable :
-    (b : Bounds) (initial : List T.InitialItem) → are_values (Y.FixedLeaf 31) initial ≡ true →
-    IsMakeable (array_declared b initial)
-array_makeable b initial fit =
+    (g : Grid) (initial : List T.InitialItem) → IsGrid g initial → IsMakeable (grid_declared g initial)
+array_makeable g initial is =
+    by_element (λ t. are_values t initial ≡ true →
+    IsMakeable (grid_declared (record { type = t; bounds = g.bounds }) initial))
+    (λ p few fit.
+    let h : Grid = record { type = Y.FixedLeaf p; bounds = g.bounds } in
+    let d = grid_declared h initial in
+    let same = constant_is h initial tt in
     record {
       class = refl;
       evaluations = refl;
-      constant = refl;
-      frame = λ parts. refl;
+      constant = same;
+      frame = λ parts. ap (λ q. 16 + cond q (rounded_up 16 (data_size (shape_of [] d).signature)) 0) same;
       plain = refl;
       fixed = refl;
       values = (tt, tt);
-      valued = array_valued b initial fit;
+      valued = array_valued h initial few fit;
       counts = refl;
-    }
+    })
+    (λ fit.
+    let h : Grid = record { type = Y.BitLeaf; bounds = g.bounds } in
+    let d = grid_declared h initial in
+    let same = constant_is h initial tt in
+    record {
+      class = refl;
+      evaluations = refl;
+      constant = same;
+      frame = λ parts. ap (λ q. 16 + cond q (rounded_up 16 (data_size (shape_of [] d).signature)) 0) same;
+      plain = refl;
+      fixed = refl;
+      values = (tt, tt);
+      valued = array_valued h initial tt fit;
+      counts = refl;
+    })
+    g.type (type_of is) is.values
 
 -- a type whose values can be told
 pub narrow_sound : (t : Y.LeafType) → is_narrow_type t ≡ true → IsSound (kind_of [] t)
@@ -279,12 +313,12 @@ pointer_makeable =
 pub makeable : (d : Y.DeclaredVariable) → is_declared d ≡ true → IsMakeable d
 makeable d h =
     of_declared IsMakeable (λ initial fit. fixed_makeable 31 initial (omega arith) fit)
-    (λ b is initial fit. array_makeable b initial fit) narrow_makeable pointer_makeable d h
+    (λ g initial is. array_makeable g initial is) narrow_makeable pointer_makeable d h
 
 -- ---- what it begins with
 
 pub starts : (d : Y.DeclaredVariable) → is_declared d ≡ true → Starts d
 starts d h =
     of_declared Starts (λ initial fit. scalar_starts (Y.FixedLeaf 31) initial (omega arith) fit)
-    (λ b is initial fit. array_starts b initial fit)
+    (λ g initial is. array_starts g initial (element_sound g.type (type_of is)) is.values)
     (λ t is initial fit. scalar_starts t initial (narrow_sound t is) fit) (inl (refl, refl)) d h

@@ -1,13 +1,14 @@
 -- Numbers, tests and texts of the class: each leaves what it means, by the law of its form.
 use Rattle.std.proofs.Common.{◌≡◌, ◌⊎◌, inl, inr, ℕ, ◌+◌, ◌*◌, ◌^◌, ◌≤◌, List, ◌∷◌, length, Option, Some, true, refl}
-use Rattle.std.proofs.Common.{sym, ap, ◌<◌, ◌∙◌, subst, arith, []}
-use Rattle.std.specs.Prelude.{◌&&◌, ◌==◌, ◌/◌, ◌%◌, cond, max, suc, nat_le, nat_lt}
+use Rattle.std.proofs.Common.{sym, ap, ◌<◌, ◌∙◌, subst, arith, [], Bool}
+use Rattle.std.specs.Prelude.{◌&&◌, ◌==◌, ◌/◌, ◌%◌, cond, max, suc, nat_le, nat_lt, ◌||◌}
 use Rattle.storage_relation.proofs.Holders.{eqb-other}
 use Rattle.storage_relation.proofs.Placing.{none_above}
 use Rattle.rv_meaning.specs.Words.{word}
 use Rattle.std.proofs.lemmas.Bool.{and_parts, eqb-true, ltb-true, or_cases, leb-true}
 use Rattle.pli_typing.specs.TypedTree as Y
-use Rattle.pli_coding.specs.Expressions.{argument_count, argument_words}
+use Rattle.pli_typing.specs.Signatures.{Bounds}
+use Rattle.pli_coding.specs.Expressions.{argument_count, argument_words, given_in}
 use Rattle.activation_relation.specs.FrameLaws.{with_waits}
 use Rattle.activation_relation.specs.Layers.{Layer}
 use Rattle.pli_meaning.specs.Texts.{most_text}
@@ -29,7 +30,8 @@ use Rattle.operator_runs.proofs.Remainders.{modulo_does}
 use Rattle.operator_runs.proofs.Signs.{absolute_does, negative_does, positive_does, sign_does}
 use Rattle.test_runs.specs.Tests.{Tests}
 use Rattle.test_runs.proofs.Bits.{and_tests, bits_tests, constant_tests, negated_tests, numbers_tests, or_tests}
-use Rattle.element_runs.proofs.Elements.{element_does}
+use Rattle.array_runs.specs.Subscripts.{AreSubscripts, IsSubscript}
+use Rattle.array_runs.proofs.Elements as A
 use Rattle.scalar_runs.proofs.Conversions.{converted_does}
 use Rattle.text_runs.specs.Laws.{NumberDoes, TextDoes}
 use Rattle.text_runs.specs.Waiting.{over}
@@ -44,7 +46,7 @@ use Rattle.text_values.proofs.Variables.{variable_pushes}
 use Rattle.argument_runs.specs.Parameters.{parameter, parameter_of}
 use Rattle.parameter_runs.specs.Around.{IsParameterAround}
 use Rattle.parameter_runs.proofs.Reading.{around_does}
-use Rattle.counter_runs.proofs.Known.{array_told, number_told}
+use Rattle.counter_runs.proofs.Known.{number_told}
 use Rattle.counter_runs.proofs.Words.{begun_telling}
 use Rattle.list_calls.specs.Arguments.{EachGives, setting_told}
 use Rattle.list_calls.specs.ListKnown.{IsStored}
@@ -58,16 +60,17 @@ use Rattle.number_runs.specs.Numbers.{arguments_need, arguments_set, bounds_know
 use Rattle.number_runs.specs.Numbers.{is_argument, is_element, is_fixed, is_given, is_number, is_reference, is_test}
 use Rattle.number_runs.specs.Numbers.{is_variable, may_calculate, number_needs, number_sets, numbers_need}
 use Rattle.number_runs.specs.Numbers.{numbers_set, reference_needs, reference_sets, test_needs, test_sets, type_known}
-use Rattle.number_runs.specs.Numbers.{is_narrow_with, is_wider, is_precision, is_text, text_needs, without_given}
-use Rattle.number_runs.specs.Numbers.{IsBare, is_known, is_passed, is_received}
+use Rattle.number_runs.specs.Numbers.{is_narrow_with, is_precision, is_text, text_needs, without_given, IsBare}
+use Rattle.number_runs.specs.Numbers.{is_known, is_passed, is_received, is_item, subscripts_need}
 use Rattle.number_runs.specs.Based.{is_word_type}
-use Rattle.number_runs.specs.Narrow.{is_number_type, is_text_type}
-use Rattle.number_runs.proofs.Arrays.{element_is, subscript_given}
+use Rattle.number_runs.specs.Narrow.{is_number_type, is_text_type, is_bit}
+use Rattle.number_runs.proofs.Arrays.{element_is, subscript_given, array_told, elements_known, lower_known, upper_known}
 use Rattle.number_runs.proofs.Narrow.{flag_does, narrow_does, narrow_told, narrow_with_is, text_known, text_type_is}
+use Rattle.number_runs.proofs.Narrow.{bit_is, number_type_is}
 use Rattle.parameter_runs.proofs.Passing.{around_passed, around_told}
 use Rattle.number_runs.proofs.Received.{named_told, passable_told, stored_untold}
-use Rattle.number_runs.proofs.Variables.{Names, Passable, parameter_is, variable_is, ways_are, ways_many, ways_of}
-use Rattle.number_runs.proofs.Variables.{ways_stored}
+use Rattle.number_runs.proofs.Variables.{Names, Passable, fixed_is, parameter_is, variable_is, ways_are, ways_many}
+use Rattle.number_runs.proofs.Variables.{ways_of, ways_stored}
 use Rattle.number_runs.proofs.Turns.{telling_same}
 use Rattle.number_runs.proofs.Waiting.{numbers_wait, numbers_without, texts_without}
 use Rattle.number_runs.proofs.Based.{through_is}
@@ -230,10 +233,75 @@ numbers_told s k h g words few waits free =
 -- what it is if it is no scalar of fewer bits
 named_does :
     (s : Scope) (k : Setting) (r : Y.Reference) → KnowsNumbers s k →
-    (is_reference s r ≡ true) ⊎ (is_narrow_with s is_number_type r ≡ true) →
-    (is_reference s r ≡ true → Does k (reference_needs r) (Y.NumberIn r)) → Does k (reference_needs r) (Y.NumberIn r)
-named_does s k r h (inl is) one = one is
-named_does s k r h (inr is) one = narrow_does s k r h is
+    (is_reference s r ≡ true) ⊎ ((is_narrow_with s is_number_type r || is_item s is_number_type r) ≡ true) →
+    (is_reference s r ≡ true → Does k (reference_needs r) (Y.NumberIn r)) →
+    (is_item s is_number_type r ≡ true → Does k (reference_needs r) (Y.NumberIn r)) →
+    Does k (reference_needs r) (Y.NumberIn r)
+named_does s k r h (inl is) one item = one is
+named_does s k r h (inr is) one item =
+    by (or_cases (is_narrow_with s is_number_type r) (is_item s is_number_type r) is)
+  where
+    by :
+        (is_narrow_with s is_number_type r ≡ true) ⊎ (is_item s is_number_type r ≡ true) →
+        Does k (reference_needs r) (Y.NumberIn r)
+    by (inl narrow) = narrow_does s k r h narrow
+    by (inr one') = item one'
+
+-- a bit of a variable, or of an element
+flagged_tests :
+    (s : Scope) (k : Setting) (r : Y.Reference) → KnowsNumbers s k →
+    (is_narrow_with s is_bit r ≡ true) ⊎ (is_item s is_bit r ≡ true) →
+    (is_item s is_bit r ≡ true → Tests k (reference_needs r) (Y.BitIn r)) → Tests k (reference_needs r) (Y.BitIn r)
+flagged_tests s k r h (inl is) item = flag_does s k r h is
+flagged_tests s k r h (inr is) item = item is
+
+-- subscripts, one for each of so many dimensions
+abbrev Counted : (k : Setting) (need : ℕ) → Y.Numbers → Type 0
+Counted k need xs = (bs : List Bounds) → length bs ≡ given_in xs → AreSubscripts k 0 need bs xs
+
+first_then :
+    (k : Setting) (taken need : ℕ) (first : Y.Number) (rest : Y.Numbers) → IsSubscript k taken need first →
+    ((bs : List Bounds) → length bs ≡ given_in rest → AreSubscripts k (taken + 1) need bs rest) →
+    (bs : List Bounds) → length bs ≡ suc (given_in rest) → AreSubscripts k taken need bs (Y.NumberThen first rest)
+first_then k taken need first rest one more [] many = absurd (omega (arith, many))
+first_then k taken need first rest one more (b ∷ bs) many = (one, more bs (omega (arith, many)))
+
+element_number :
+    (s : Scope) (k : Setting) (test : Y.LeafType → Bool) (v : Y.Variable) (part : Y.Part) (xs : Y.Numbers) →
+    KnowsNumbers s k → is_element s test v part (given_in xs) ≡ true →
+    ((t : Y.LeafType) → test t ≡ true → (n : ℕ) × (t ≡ Y.FixedLeaf n)) → Counted k (subscripts_need xs) xs →
+    Does k (subscripts_need xs) (Y.NumberIn (Y.Referring v Y.NotLocated part xs))
+element_number s k test v part xs h is typed subscripts =
+    let w = element_is s test v part xs is in
+    let g = bounds_known s w.spot in
+    let t = typed g.type w.passes in
+    subst (λ r. Does k (subscripts_need xs) (Y.NumberIn r)) (sym w.is)
+    (A.number_does k w.spot g t.0 xs (subscripts_need xs) h.begun (h.arrays w.may w.spot w.known) t.1
+    (h.subscript w.may) (subscripts g.bounds w.many))
+
+element_bit :
+    (s : Scope) (k : Setting) (v : Y.Variable) (part : Y.Part) (xs : Y.Numbers) →
+    KnowsNumbers s k → is_element s is_bit v part (given_in xs) ≡ true → Counted k (subscripts_need xs) xs →
+    Tests k (subscripts_need xs) (Y.BitIn (Y.Referring v Y.NotLocated part xs))
+element_bit s k v part xs h is subscripts =
+    let w = element_is s is_bit v part xs is in
+    let g = bounds_known s w.spot in
+    subst (λ r. Tests k (subscripts_need xs) (Y.BitIn r)) (sym w.is)
+    (A.bit_does k w.spot g xs (subscripts_need xs) h.begun (h.arrays w.may w.spot w.known) (bit_is g.type w.passes)
+    (h.subscript w.may) (subscripts g.bounds w.many))
+
+-- words for the lists of the first, and of the others
+first_lists :
+    {s : Scope} {k : Setting} (h : KnowsNumbers s k) (first : Y.Number) (rest : Y.Numbers) →
+    HasLists h (max 0 (max (number_sets first) (numbers_set rest))) → HasLists h (number_sets first)
+first_lists h first rest room =
+    fewer_lists h (number_sets first) (max 0 (max (number_sets first) (numbers_set rest))) (omega arith) room
+
+rest_lists :
+    {s : Scope} {k : Setting} (h : KnowsNumbers s k) (first : Y.Number) (rest : Y.Numbers) →
+    HasLists h (max 0 (max (number_sets first) (numbers_set rest))) → HasLists h (numbers_set rest)
+rest_lists h first rest room =
+    fewer_lists h (numbers_set rest) (max 0 (max (number_sets first) (numbers_set rest))) (omega arith) room
 
 -- where calls have no arguments, no words are asked for
 no_lists :
@@ -380,8 +448,8 @@ mutual
       HasLists h (number_sets x) → Does k (number_needs x) x
   number_does s k (Y.NumberConstant n) h is room = constant_does k n (ltb-true n (2 ^ 31) is)
   number_does s k (Y.NumberIn r) h is room =
-      named_does s k r h (or_cases (is_reference s r) (is_narrow_with s is_number_type r) is)
-      (λ one. reference_does s k r h one room)
+      named_does s k r h (or_cases (is_reference s r) (is_narrow_with s is_number_type r || is_item s is_number_type r) is)
+      (λ one. reference_does s k r h one room) (λ one. item_does s k r h one room)
   number_does s k (Y.NumberFrom c) h is room = call_does s k c h is room
   number_does s k (Y.Signed sign x) h is room =
       let a = and_parts s.overflows (is_number s x) is in
@@ -448,9 +516,10 @@ mutual
       alone_does k (Y.VerifyOf x y) (max (text_needs x) (text_needs y))
       (verify_finds [] k x y (text_needs x) (text_needs y) (text_does [] g k x (numbers_without h) (refl, refl) a.0 b.0)
       (λ t. text_does (TextEntry t ∷ []) g k y (numbers_without h) (refl, refl) a.0 b.1))
-  number_does s k (Y.LowerBound r n) h is room = absurd (cc is)
-  number_does s k (Y.UpperBound r n) h is room = absurd (cc is)
-  number_does s k (Y.ElementsOf r n) h is room = absurd (cc is)
+  number_does s k (Y.LowerBound r n) h is room = lower_known s k r n h is
+  number_does s k (Y.UpperBound r n) h is room = upper_known s k r n h is
+  number_does s k (Y.ElementsOf r n) h is room =
+      more_registers k 0 1 (Y.ElementsOf r n) (omega arith) (elements_known s k r n h is)
   number_does s k (Y.AllocationsOf v) h is room = absurd (cc is)
   number_does s k Y.OnCode h is room = code_does k (h.codes is)
 
@@ -523,22 +592,62 @@ mutual
   reference_does s k (Y.Referring v Y.NotLocated part Y.NoNumber) h is room =
       let r = Y.Referring v Y.NotLocated part Y.NoNumber in
       scalar_does s k r h (or_cases (is_variable s r) (is_given s r) is)
-  reference_does s k (Y.Referring v Y.NotLocated part (Y.NumberThen subscript Y.NoNumber)) h is room =
-      let a = and_parts (is_element s v part) (is_number s subscript && is_wider s subscript) is in
-      let number = (and_parts (is_number s subscript) (is_wider s subscript) a.1).0 in
-      let w = element_is s v part subscript a.0 in
-      let need = max (number_needs subscript) 1 in
-      subst (λ r. Does k need (Y.NumberIn r)) (sym w.is)
-      (element_does k w.spot (bounds_known s w.spot) subscript need h.begun (h.arrays w.may w.spot w.known)
-      (h.subscript w.may)
-      (subscript_given s k 0 need subscript h a.1 (omega arith) (number_does s k subscript h number
-      (fewer_lists h (number_sets subscript) (max 0 (max (number_sets subscript) 0)) (omega arith) room))))
-  reference_does s k (Y.Referring v Y.NotLocated part (Y.NumberThen first (Y.NumberThen second rest))) h is room =
-      absurd (cc is)
+  reference_does s k (Y.Referring v Y.NotLocated part (Y.NumberThen first rest)) h is room =
+      let need = subscripts_need (Y.NumberThen first rest) in
+      let a = and_parts (is_element s is_fixed v part (suc (given_in rest))) (is_number s first && are_numbers s rest) is in
+      let b = and_parts (is_number s first) (are_numbers s rest) a.1 in
+      element_number s k is_fixed v part (Y.NumberThen first rest) h a.0 (λ t passes. (31, fixed_is t passes))
+      (first_then k 0 need first rest (subscript_given s k 0 need first h b.0 (omega arith)
+      (number_does s k first h b.0 (first_lists h first rest room)))
+      (λ bs many. subscripts_do s k rest h b.1 (rest_lists h first rest room) bs 1 need many (omega arith)))
   reference_does s k (Y.Referring v (Y.LocatedBy p) part Y.NoNumber) h is room =
       let w = through_is s is_word_type v p part is in
       subst (λ r. Does k 0 (Y.NumberIn r)) (sym w.is) (h.located w.may w.pointer w.based w.member w.known w.declared)
   reference_does s k (Y.Referring v (Y.LocatedBy p) part (Y.NumberThen first rest)) h is room = absurd (cc is)
+
+  item_does :
+      (s : Scope) (k : Setting) (r : Y.Reference) (h : KnowsNumbers s k) → is_item s is_number_type r ≡ true →
+      HasLists h (reference_sets r) → Does k (reference_needs r) (Y.NumberIn r)
+  item_does s k (Y.Referring v Y.NotLocated part (Y.NumberThen first rest)) h is room =
+      let need = subscripts_need (Y.NumberThen first rest) in
+      let a = and_parts (is_element s is_number_type v part (suc (given_in rest))) (is_number s first && are_numbers s rest) is in
+      let b = and_parts (is_number s first) (are_numbers s rest) a.1 in
+      element_number s k is_number_type v part (Y.NumberThen first rest) h a.0 number_type_is
+      (first_then k 0 need first rest (subscript_given s k 0 need first h b.0 (omega arith)
+      (number_does s k first h b.0 (first_lists h first rest room)))
+      (λ bs many. subscripts_do s k rest h b.1 (rest_lists h first rest room) bs 1 need many (omega arith)))
+  item_does s k (Y.Referring v Y.NotLocated part Y.NoNumber) h is room = absurd (cc is)
+  item_does s k (Y.Referring v (Y.LocatedBy p) part subscripts) h is room = absurd (cc is)
+
+  bit_item_tests :
+      (s : Scope) (k : Setting) (r : Y.Reference) (h : KnowsNumbers s k) → is_item s is_bit r ≡ true →
+      HasLists h (reference_sets r) → Tests k (reference_needs r) (Y.BitIn r)
+  bit_item_tests s k (Y.Referring v Y.NotLocated part (Y.NumberThen first rest)) h is room =
+      let need = subscripts_need (Y.NumberThen first rest) in
+      let a = and_parts (is_element s is_bit v part (suc (given_in rest))) (is_number s first && are_numbers s rest) is in
+      let b = and_parts (is_number s first) (are_numbers s rest) a.1 in
+      element_bit s k v part (Y.NumberThen first rest) h a.0
+      (first_then k 0 need first rest (subscript_given s k 0 need first h b.0 (omega arith)
+      (number_does s k first h b.0 (first_lists h first rest room)))
+      (λ bs many. subscripts_do s k rest h b.1 (rest_lists h first rest room) bs 1 need many (omega arith)))
+  bit_item_tests s k (Y.Referring v Y.NotLocated part Y.NoNumber) h is room = absurd (cc is)
+  bit_item_tests s k (Y.Referring v (Y.LocatedBy p) part subscripts) h is room = absurd (cc is)
+
+  -- subscripts, one for each dimension
+  pub subscripts_do :
+      (s : Scope) (k : Setting) (xs : Y.Numbers) (h : KnowsNumbers s k) → are_numbers s xs ≡ true →
+      HasLists h (numbers_set xs) → (bs : List Bounds) (taken need : ℕ) → length bs ≡ given_in xs →
+      taken + subscripts_need xs ≤ need → AreSubscripts k taken need bs xs
+  subscripts_do s k Y.NoNumber h is room [] taken need many enough = tt
+  subscripts_do s k Y.NoNumber h is room (b ∷ bs) taken need many enough = absurd (omega (arith, many))
+  subscripts_do s k (Y.NumberThen first rest) h is room [] taken need many enough = absurd (omega (arith, many))
+  subscripts_do s k (Y.NumberThen first rest) h is room (b ∷ bs) taken need many enough =
+      let p = fewer_lists h (number_sets first) (max (number_sets first) (numbers_set rest)) (omega arith) room in
+      let q = fewer_lists h (numbers_set rest) (max (number_sets first) (numbers_set rest)) (omega arith) room in
+      let a = and_parts (is_number s first) (are_numbers s rest) is in (
+        subscript_given s k taken need first h a.0 (omega (arith, enough)) (number_does s k first h a.0 p),
+        subscripts_do s k rest h a.1 q bs (taken + 1) need (omega (arith, many)) (omega (arith, enough)),
+      )
 
   numbers_do :
       (s : Scope) (k : Setting) (xs : Y.Numbers) (h : KnowsNumbers s k) → are_numbers s xs ≡ true →
@@ -609,7 +718,9 @@ mutual
       let a = and_parts (is_test s left) (is_test s right) is in
       bits_tests k comparison left right (test_needs left) (test_needs right) (test_does s k left h a.0
       (left_tests h left right room)) (test_does s k right h a.1 (right_tests h left right room))
-  test_does s k (Y.BitIn r) h is room = flag_does s k r h is
+  test_does s k (Y.BitIn r) h is room =
+      flagged_tests s k r h (or_cases (is_narrow_with s is_bit r) (is_item s is_bit r) is)
+      (λ one. bit_item_tests s k r h one room)
   test_does s k (Y.BitFrom c) h is room = absurd (cc is)
   test_does s k (Y.BitOfText x) h is room =
       let a = and_parts s.texts (is_text (without_given s) x) is in

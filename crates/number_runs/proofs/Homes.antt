@@ -6,6 +6,7 @@ use Rattle.std.specs.Prelude.{◌&&◌, ◌||◌, ◌==◌, Bool, max, not, suc}
 use Rattle.std.proofs.lemmas.Bool.{and_parts, eqb-true, ltb-true, or_cases}
 use Rattle.pli_typing.specs.TypedTree as Y
 use Rattle.pli_coding.specs.Expressions.{argument_count, argument_words}
+use Rattle.pli_coding.specs.Expressions as X
 use Rattle.pli_meaning.specs.Control.{Label, is_among}
 use Rattle.pli_coding.specs.Environments.{none_taken}
 use Rattle.pli_coding.specs.Statements.{stmt_code}
@@ -21,8 +22,8 @@ use Rattle.expression_runs.proofs.Raises.{overflow_ends}
 use Rattle.operator_runs.proofs.Divisors.{zero_divide_ends}
 use Rattle.function_runs.specs.Returns.{return_of}
 use Rattle.function_runs.proofs.ReturnValues as W
-use Rattle.element_runs.specs.Arrays.{element}
-use Rattle.element_runs.proofs.Assignments as A
+use Rattle.array_runs.specs.Arrays.{element}
+use Rattle.array_runs.proofs.Assignments as A
 use Rattle.element_runs.proofs.Outside.{subscripts_end}
 use Rattle.test_runs.specs.Choices.{HasTestWith}
 use Rattle.argument_runs.specs.Parameters.{parameter}
@@ -31,7 +32,8 @@ use Rattle.parameter_runs.proofs.Assigning.{around_assigned}
 use Rattle.number_runs.specs.Knowledge.{AreAround, HasFrame, HasLists, Includes, IsReady, IsUnraised, KnowsGiven}
 use Rattle.number_runs.specs.Knowledge.{KnowsNumbers, KnowsRaises, MayBeSet, given_statement, KnowsTexts}
 use Rattle.number_runs.specs.Numbers.{Scope, are_arguments, arguments_need, bounds_known, call_sets, gives_lists}
-use Rattle.number_runs.specs.Numbers.{is_element, is_fixed, is_given, is_number, is_reference, is_variable, is_wider}
+use Rattle.number_runs.specs.Numbers.{is_element, is_fixed, is_given, is_number, is_reference, is_variable}
+use Rattle.number_runs.specs.Numbers.{are_numbers, numbers_set, subscripts_need}
 use Rattle.number_runs.specs.Numbers.{number_needs, number_sets, reference_needs, reference_sets, test_needs}
 use Rattle.number_runs.specs.Based.{is_word_type}
 use Rattle.number_runs.specs.Numbers.{is_located}
@@ -43,8 +45,9 @@ use Rattle.member_runs.specs.Members.{member_of}
 use Rattle.area_assignments.specs.Copying.{copying}
 use Rattle.area_assignments.specs.Emptying.{emptying}
 use Rattle.area_freeings.specs.Freeing.{freeing}
-use Rattle.number_runs.proofs.Arrays.{element_is, subscript_given}
-use Rattle.number_runs.proofs.Expressions.{arguments_give, names_in, number_does}
+use Rattle.number_runs.proofs.Arrays.{element_is}
+use Rattle.scalar_runs.proofs.Fitting.{all_fits}
+use Rattle.number_runs.proofs.Expressions.{subscripts_do, arguments_give, names_in, number_does}
 use Rattle.number_runs.proofs.Turns.{telling_same}
 use Rattle.number_runs.proofs.Variables.{fixed_is, parameter_is, variable_is, ways_are, ways_many, ways_of}
 use Rattle.number_runs.proofs.Variables.{ways_stored}
@@ -349,45 +352,44 @@ located_does h labels v p part source line index includes is one two fits {n} le
     (number_does h.scope (setting_around h.words h.block labels line h.most) x.number (knows h labels line includes)
     x.known (lists_at h labels line includes (number_sets x.number) n (omega (arith, few, less)) sets))))))
 
--- into an element: the value waits while the subscript is computed
+-- into an element: the value waits while subscripts are computed
 element_given :
-    (h : Home) (labels : List Label) (v : Y.Variable) (part : Y.Part) (subscript : Y.Number) (source : Y.Stored)
-    (line index : ℕ) → Includes h.own labels → is_line line ≡ true → is_element h.scope v part ≡ true →
-    (is_number h.scope subscript && is_wider h.scope subscript) ≡ true → is_stored h.scope source ≡ true →
-    stored_needs source ≤ h.block.registers →
-    suc (max (number_needs subscript) 1) ≤ h.block.registers →
-    HasFrame h.ready h.words (max (stored_sets source) (max (number_sets subscript) 0)) →
-    Coded h labels (Y.Assign (Y.Referring v Y.NotLocated part (Y.NumberThen subscript Y.NoNumber)) source line) index
-element_given h labels v part subscript source line index includes is one number two fits more sets =
+    (h : Home) (labels : List Label) (v : Y.Variable) (part : Y.Part) (subscripts : Y.Numbers) (source : Y.Stored)
+    (line index : ℕ) → Includes h.own labels → is_line line ≡ true →
+    is_element h.scope is_fixed v part (X.given_in subscripts) ≡ true → are_numbers h.scope subscripts ≡ true →
+    is_stored h.scope source ≡ true → stored_needs source ≤ h.block.registers →
+    suc (subscripts_need subscripts) ≤ h.block.registers →
+    HasFrame h.ready h.words (max (stored_sets source) (numbers_set subscripts)) →
+    Coded h labels (Y.Assign (Y.Referring v Y.NotLocated part subscripts) source line) index
+element_given h labels v part subscripts source line index includes is one numbers two fits more sets =
     let s = h.scope in
-    let t = element_is s v part subscript one in
+    let t = element_is s is_fixed v part subscripts one in
+    let g = bounds_known s t.spot in
     let x = storing s source two in
     let first = number_needs x.number in
-    let second = suc (max (number_needs subscript) 1) in
+    let second = suc (subscripts_need subscripts) in
     let needs = x.needs in
     let few = x.sets in
-    let all = max (stored_sets source) (max (number_sets subscript) 0) in
+    let all = max (stored_sets source) (numbers_set subscripts) in
     let k = setting_around h.words h.block labels line h.most in
     let knows' = knows h labels line includes in
     subst (λ r. Coded h labels (Y.Assign r source line) index) (sym t.is)
-    (subst (λ q. Coded h labels (Y.Assign (element t.spot subscript) q line) index) (sym x.is)
-    (λ l. A.assign_with h.words h.block labels t.spot (bounds_known s t.spot) subscript x.number line index h.left'
-    first second h.most
+    (subst (λ q. Coded h labels (Y.Assign (element t.spot subscripts) q line) index) (sym x.is)
+    (λ l. A.number_stored h.words h.block labels t.spot g 31 subscripts x.number line index h.left' first second h.most
     (record {
       act = act_of h line is;
       begun = h.ready.begun;
-      array = h.ready.arrays t.may t.spot t.known;
       registers = omega (arith, fits, needs, more);
       held = h.ready.held;
       statement = l;
-      paid = paid_for h (Y.Assign (element t.spot subscript) (Y.StoredNumber 31 x.number) line) index l;
+      paid = paid_for h (Y.Assign (element t.spot subscripts) (Y.StoredNumber 31 x.number) line) index l;
     })
-    (knows'.subscript t.may)
-    (number_does s k x.number knows' x.known
-    (lists_at h labels line includes (number_sets x.number) all (omega (arith, few)) sets))
-    (subscript_given s k 1 second subscript knows' number (omega arith)
-    (number_does s k subscript knows' (and_parts (is_number s subscript) (is_wider s subscript) number).0
-    (lists_at h labels line includes (number_sets subscript) all (omega arith) sets)))))
+    (h.ready.arrays t.may t.spot t.known) (fixed_is g.type t.passes) (knows'.subscript t.may)
+    (all_fits k x.number first (number_does s k x.number knows' x.known
+    (lists_at h labels line includes (number_sets x.number) all (omega (arith, few)) sets)))
+    (subscripts_do s k subscripts knows' numbers
+    (lists_at h labels line includes (numbers_set subscripts) all (omega arith) sets) g.bounds 1 second t.many
+    (omega arith))))
 
 pub given_does :
     (h : Home) (labels : List Label) (target : Y.Reference) (source : Y.Stored) (line index : ℕ) →
@@ -401,14 +403,12 @@ given_does h labels (Y.Referring v Y.NotLocated part Y.NoNumber) source line ind
     scalar_does h labels r source line index includes is (or_cases (is_variable h.scope r) (is_given h.scope r) one) two
     (omega (arith, fits))
     (λ c. let room = (sets c).1 in ((sets c).0, omega (arith, room)))
-given_does h labels (Y.Referring v Y.NotLocated part (Y.NumberThen subscript Y.NoNumber)) source line index includes is
-    one two fits sets =
-    let a = and_parts (is_element h.scope v part) (is_number h.scope subscript && is_wider h.scope subscript) one in
-    element_given h labels v part subscript source line index includes is a.0 a.1 two (omega (arith, fits))
-    (omega (arith, fits)) (λ c. let room = (sets c).1 in ((sets c).0, omega (arith, room)))
-given_does h labels (Y.Referring v Y.NotLocated part (Y.NumberThen first (Y.NumberThen second rest))) source line index
-    includes is one two fits sets =
-    absurd (cc one)
+given_does h labels (Y.Referring v Y.NotLocated part (Y.NumberThen first rest)) source line index includes is one two fits
+    sets =
+    let a = and_parts (is_element h.scope is_fixed v part (suc (X.given_in rest)))
+    (is_number h.scope first && are_numbers h.scope rest) one in
+    element_given h labels v part (Y.NumberThen first rest) source line index includes is a.0 a.1 two
+    (omega (arith, fits)) (omega (arith, fits)) (λ c. let room = (sets c).1 in ((sets c).0, omega (arith, room)))
 given_does h labels (Y.Referring v (Y.LocatedBy p) part Y.NoNumber) source line index includes is one two fits sets =
     located_does h labels v p part source line index includes is one two (omega (arith, fits))
     {n = max (stored_sets source) (max 5 0)} (omega arith) sets

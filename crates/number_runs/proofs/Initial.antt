@@ -15,7 +15,7 @@ use Rattle.storage_relation.specs.Beginning.{AllGiven, AllNoEmpty, AreGiven, Are
 use Rattle.storage_relation.specs.Keeping.{AreInitialItems, IsInitial, IsSound}
 use Rattle.storage_relation.specs.Standing.{IsValued}
 use Rattle.storage_relation.proofs.Begun.{fresh_valued}
-use Rattle.element_runs.specs.Arrays.{array_declared}
+use Rattle.array_runs.specs.Arrays.{Grid, grid_declared}
 use Rattle.scalar_runs.specs.Scalars.{scalar_declared}
 use Rattle.number_runs.specs.Initial.{are_values, is_value}
 
@@ -71,12 +71,11 @@ scalar_valued t items sound h =
     fresh_valued (shape_of [] d) (pos 0) (initial_of d) (sound, tt) ((all_fit t items h).initial, tt)
 
 pub array_valued :
-    (b : Bounds) (items : List T.InitialItem) → are_values (Y.FixedLeaf 31) items ≡ true →
-    IsValued (fresh (shape_of [] (array_declared b items)) (pos 0) (initial_of (array_declared b items)))
-array_valued b items h =
-    let d = array_declared b items in
-    fresh_valued (shape_of [] d) (pos 0) (initial_of d) (omega arith, tt)
-    ((all_fit (Y.FixedLeaf 31) items h).initial, tt)
+    (g : Grid) (items : List T.InitialItem) → IsSound (kind_of [] g.type) → are_values g.type items ≡ true →
+    IsValued (fresh (shape_of [] (grid_declared g items)) (pos 0) (initial_of (grid_declared g items)))
+array_valued g items sound h =
+    let d = grid_declared g items in
+    fresh_valued (shape_of [] d) (pos 0) (initial_of d) (sound, tt) ((all_fit g.type items h).initial, tt)
 
 -- nothing, or the values of its leaf, which has one list
 pub record IsOneList (d : Y.DeclaredVariable) : Type 0 where
@@ -110,15 +109,15 @@ scalar_starts t (i ∷ is) sound h =
     })
 
 pub array_starts :
-    (b : Bounds) (items : List T.InitialItem) → are_values (Y.FixedLeaf 31) items ≡ true →
-    Starts (array_declared b items)
-array_starts b [] h = inl (refl, refl)
-array_starts b (i ∷ is) h =
-    let fit = all_fit (Y.FixedLeaf 31) (i ∷ is) h in
+    (g : Grid) (items : List T.InitialItem) → IsSound (kind_of [] g.type) → are_values g.type items ≡ true →
+    Starts (grid_declared g items)
+array_starts g [] sound h = inl (refl, refl)
+array_starts g (i ∷ is) sound h =
+    let fit = all_fit g.type (i ∷ is) h in
     inr (record {
       leaf = one_leaf (i ∷ is);
       datum = refl;
-      given = (fit.given (omega arith), tt);
+      given = (fit.given sound, tt);
       some = (fit.some, tt);
       few = omega arith;
     })

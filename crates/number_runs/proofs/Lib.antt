@@ -28,6 +28,7 @@ pub mod Counters
 pub mod Turns
 pub mod Homes
 pub mod PointedAssignments
+pub mod Items
 pub mod Narrowed
 pub mod Statements
 pub mod Uncounted

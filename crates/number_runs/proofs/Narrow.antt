@@ -231,10 +231,10 @@ narrow_does s k r h is =
 
 pub flag_does :
     (s : Scope) (k : Setting) (r : Y.Reference) → KnowsNumbers s k → is_narrow_with s is_bit r ≡ true →
-    Tests k 0 (Y.BitIn r)
+    Tests k (reference_needs r) (Y.BitIn r)
 flag_does s k r h is =
     let w = narrow_with_is s is_bit r is in
-    subst (λ q. Tests k 0 (Y.BitIn q)) (sym w.is)
+    subst (λ q. Tests k (reference_needs q) (Y.BitIn q)) (sym w.is)
     (bit_does k w.spot h.begun
     (subst (λ u. IsScalar k.block w.spot u) (bit_is (type_known s w.spot) w.passes)
     (h.narrows w.may w.spot w.known)))

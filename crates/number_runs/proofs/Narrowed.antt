@@ -1,7 +1,7 @@
 -- Assignments to scalars of other types.
-use Rattle.std.proofs.Common.{◌≡◌, ℕ, ◌≤◌, List, [], true, refl, sym, subst, arith}
-use Rattle.std.specs.Prelude.{◌&&◌, max, nat_lt}
-use Rattle.std.proofs.lemmas.Bool.{and_parts, ltb-true}
+use Rattle.std.proofs.Common.{◌≡◌, ◌⊎◌, inl, inr, ℕ, ◌≤◌, List, [], true, refl, sym, subst, arith}
+use Rattle.std.specs.Prelude.{◌&&◌, ◌||◌, max, nat_lt, suc}
+use Rattle.std.proofs.lemmas.Bool.{and_parts, ltb-true, or_cases}
 use Rattle.pli_typing.specs.TypedTree as Y
 use Rattle.pli_meaning.specs.Control.{Label}
 use Rattle.expression_runs.specs.Assignments.{setting_around}
@@ -13,9 +13,10 @@ use Rattle.number_runs.specs.Knowledge.{HasFrame, Includes}
 use Rattle.number_runs.specs.Narrow.{has_precision, is_bit, is_narrow_type, is_text_type}
 use Rattle.number_runs.specs.Numbers.{is_narrow_with, is_number, is_test, number_needs, number_sets, reference_needs}
 use Rattle.number_runs.specs.Numbers.{reference_sets, test_needs, test_sets, type_known, is_text, text_needs}
-use Rattle.number_runs.specs.Numbers.{without_given}
+use Rattle.number_runs.specs.Numbers.{without_given, is_item}
 use Rattle.number_runs.specs.Statements.{behind_sets, is_line, is_narrowed, stored_needs, stored_sets, behind_stored}
 use Rattle.number_runs.proofs.Expressions.{number_does, test_does, text_does}
+use Rattle.number_runs.proofs.Items.{bit_item, number_item}
 use Rattle.number_runs.proofs.Homes.{Coded, Home, act_of, knows, lists_at, paid_for}
 use Rattle.number_runs.proofs.Narrow.{bit_is, known_narrow, narrow_with_is, precision_is, text_known, text_type_is}
 use Rattle.number_runs.proofs.PointedAssignments.{pointed_assigned}
@@ -102,6 +103,34 @@ text_narrowed h labels target x line index includes is may one two fits =
     })
     (text_does [] (without_given s) k x (numbers_without (knows h labels line includes)) (refl, refl) may two))
 
+-- a variable or an element
+either_number :
+    (h : Home) (labels : List Label) (target : Y.Reference) (precision : ℕ) (x : Y.Number) (line index : ℕ) →
+    Includes h.own labels → is_line line ≡ true → h.scope.overflows ≡ true →
+    (is_narrow_with h.scope (has_precision precision) target ≡ true)
+    ⊎ (is_item h.scope (has_precision precision) target ≡ true) → is_number h.scope x ≡ true →
+    max (number_needs x) (suc (reference_needs target)) ≤ h.block.registers →
+    HasFrame h.ready h.words (max (number_sets x) (reference_sets target)) →
+    Coded h labels (Y.Assign target (Y.StoredNumber precision x) line) index
+either_number h labels target precision x line index includes is may (inl one) two fits sets =
+    number_narrowed h labels target precision x line index includes is may one two (omega (arith, fits))
+    {n = max (number_sets x) (reference_sets target)} (omega arith) sets
+either_number h labels target precision x line index includes is may (inr one) two fits sets =
+    number_item h labels target precision x line index includes is may one two fits sets
+
+either_bit :
+    (h : Home) (labels : List Label) (target : Y.Reference) (x : Y.Bit) (line index : ℕ) → Includes h.own labels →
+    is_line line ≡ true →
+    (is_narrow_with h.scope is_bit target ≡ true) ⊎ (is_item h.scope is_bit target ≡ true) →
+    is_test h.scope x ≡ true → max (test_needs x) (suc (reference_needs target)) ≤ h.block.registers →
+    HasFrame h.ready h.words (max (test_sets x) (reference_sets target)) →
+    Coded h labels (Y.Assign target (Y.StoredBit x) line) index
+either_bit h labels target x line index includes is (inl one) two fits sets =
+    bit_narrowed h labels target x line index includes is one two (omega (arith, fits))
+    {n = max (test_sets x) (reference_sets target)} (omega arith) sets
+either_bit h labels target x line index includes is (inr one) two fits sets =
+    bit_item h labels target x line index includes is one two fits sets
+
 pub narrowed_does :
     (h : Home) (labels : List Label) (target : Y.Reference) (source : Y.Stored) (line index : ℕ) →
     Includes h.own labels → is_line line ≡ true → is_narrowed h.scope target source ≡ true →
@@ -109,15 +138,19 @@ pub narrowed_does :
     HasFrame h.ready h.words (max (stored_sets source) (behind_sets source (reference_sets target))) →
     Coded h labels (Y.Assign target source line) index
 narrowed_does h labels target (Y.StoredNumber precision x) line index includes is one fits sets =
-    let narrow = is_narrow_with h.scope (has_precision precision) target in
+    let test = has_precision precision in
+    let narrow = is_narrow_with h.scope test target || is_item h.scope test target in
     let a = and_parts h.scope.overflows (narrow && is_number h.scope x) one in
     let b = and_parts narrow (is_number h.scope x) a.1 in
-    number_narrowed h labels target precision x line index includes is a.0 b.0 b.1 (omega (arith, fits))
-    {n = max (number_sets x) (reference_sets target)} (omega arith) sets
+    either_number h labels target precision x line index includes is a.0
+    (or_cases (is_narrow_with h.scope test target) (is_item h.scope test target) b.0) b.1 (omega (arith, fits))
+    sets
 narrowed_does h labels target (Y.StoredBit x) line index includes is one fits sets =
-    let a = and_parts (is_narrow_with h.scope is_bit target) (is_test h.scope x) one in
-    bit_narrowed h labels target x line index includes is a.0 a.1 (omega (arith, fits))
-    {n = max (test_sets x) (reference_sets target)} (omega arith) sets
+    let narrow = is_narrow_with h.scope is_bit target || is_item h.scope is_bit target in
+    let a = and_parts narrow (is_test h.scope x) one in
+    either_bit h labels target x line index includes is
+    (or_cases (is_narrow_with h.scope is_bit target) (is_item h.scope is_bit target) a.0) a.1 (omega (arith, fits))
+    sets
 narrowed_does h labels target (Y.StoredText x) line index includes is one fits sets =
     let g = without_given h.scope in
     let a = and_parts h.scope.texts (is_narrow_with h.scope is_text_type target && is_text g x) one in

@@ -5,7 +5,6 @@ use Rattle.std.specs.Prelude.{◌<◌, ◌&&◌, ◌||◌, Bool, false, nat_le, 
 use Rattle.std.proofs.lemmas.Bool.{and_parts, leb-true, ltb-true}
 use Rattle.pli_language.specs.Formats.{is_times}
 use Rattle.pli_language.specs.Tree as T
-use Rattle.pli_typing.specs.Signatures.{Bounds}
 use Rattle.pli_typing.specs.TypedTree as Y
 use Rattle.pli_meaning.specs.Control.{Label}
 use Rattle.pli_serving.specs.ServiceState.{EditPlace}
@@ -26,7 +25,7 @@ use Rattle.expression_runs.specs.Values.{Setting}
 use Rattle.expression_runs.specs.Assignments.{setting_around}
 use Rattle.expression_runs.specs.Variables.{IsNumber, Spot}
 use Rattle.expression_runs.proofs.Raises.{overflow_ends}
-use Rattle.element_runs.specs.Arrays.{IsArray}
+use Rattle.array_runs.specs.Arrays.{Grid, IsArray}
 use Rattle.element_runs.proofs.Outside.{subscripts_end}
 use Rattle.operator_runs.proofs.Divisors.{zero_divide_ends}
 use Rattle.text_runs.proofs.Errors.{error_ends}
@@ -238,8 +237,8 @@ put_statement_does words s k labels skip (p ∷ ps) line index left' most h has 
 
 -- an array of a block is one within a place in a format list
 array_placed :
-    (k : Block) (place : EditPlace) (x : Spot) (b : Bounds) → IsArray k x b → IsArray (placing place k) x b
-array_placed k place x b is =
+    (k : Block) (place : EditPlace) (x : Spot) (g : Grid) → IsArray k x g → IsArray (placing place k) x g
+array_placed k place x g is =
     let h = is.known in
     record {
       initial = is.initial;
@@ -256,7 +255,9 @@ array_placed k place x b is =
         low = h.low;
         inside = h.inside;
       };
+      type = is.type;
       bounds = is.bounds;
+      some = is.some;
     }
 
 pub narrow_placed :

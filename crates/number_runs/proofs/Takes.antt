@@ -8,14 +8,14 @@ use Rattle.pli_typing.specs.TypedTree as Y
 use Rattle.pli_meaning.specs.Control.{Label}
 use Rattle.pli_meaning.specs.Executing.{labels_in}
 use Rattle.pli_coding.specs.Allocating.{allocations_take, freeings_take}
-use Rattle.pli_coding.specs.Expressions.{argument_count, list_words}
+use Rattle.pli_coding.specs.Expressions.{argument_count, given_in, list_words}
 use Rattle.pli_coding.specs.Environments.{Taken, most_taken, with_number, with_words}
 use Rattle.pli_coding.specs.Registers.{held_registers}
 use Rattle.pli_coding.specs.Statements.{bit_if_takes, stmt_takes, stmts_take}
 use Rattle.pli_coding.specs.Storing.{assigned_takes}
 use Rattle.pli_coding.specs.Streams.{put_item_takes, put_items_take, put_takes}
 use Rattle.pli_coding.specs.Temporaries.{argument_takes, arguments_take, bit_takes, call_takes, number_takes}
-use Rattle.pli_coding.specs.Temporaries.{numbers_take, reference_takes, stored_takes, text_takes}
+use Rattle.pli_coding.specs.Temporaries.{numbers_take, reference_takes, stored_takes, subscripts_take, text_takes}
 use Rattle.program_runs.specs.Statements.{set_aside}
 use Rattle.expression_runs.specs.Variables.{Spot, whole}
 use Rattle.argument_runs.specs.Parameters.{parameter}
@@ -25,13 +25,13 @@ use Rattle.number_runs.specs.Counting.{is_count, limit_needs}
 use Rattle.number_runs.specs.Counting.{limit_sets, start_needs, start_sets}
 use Rattle.number_runs.specs.Numbers.{Scope, are_arguments, are_numbers, argument_needs, argument_sets}
 use Rattle.number_runs.specs.Numbers.{arguments_need, arguments_set, call_needs, call_sets, gives_lists, is_argument}
-use Rattle.number_runs.specs.Numbers.{is_element, is_fixed, is_given, is_number, is_reference, is_test}
+use Rattle.number_runs.specs.Numbers.{is_asked, is_element, is_fixed, is_given, is_number, is_reference, is_test}
 use Rattle.number_runs.specs.Numbers.{is_variable, may_calculate, number_needs, number_sets}
 use Rattle.number_runs.specs.Numbers.{numbers_need, numbers_set, reference_needs, reference_sets, test_needs, test_sets}
 use Rattle.number_runs.specs.Based.{is_word_type}
 use Rattle.number_runs.specs.Narrow.{has_precision, is_bit, is_number_type, is_text_type}
-use Rattle.number_runs.specs.Numbers.{is_narrow_with, is_wider, is_precision, is_text, text_needs, without_given}
-use Rattle.number_runs.specs.Numbers.{IsBare, are_compared, compared_sets, name_sets, without_located}
+use Rattle.number_runs.specs.Numbers.{is_narrow_with, is_precision, is_text, text_needs, without_given, IsBare}
+use Rattle.number_runs.specs.Numbers.{are_compared, compared_sets, name_sets, without_located, is_item, subscripts_need}
 use Rattle.number_runs.specs.Gets.{are_get_items, are_get_pairs, is_get}
 use Rattle.pli_coding.specs.Streams.{get_items_take, get_takes, has_text}
 use Rattle.number_runs.specs.Puts.{are_pairs, are_put_items, is_put, is_put_item, is_put_list, is_skip, are_shown}
@@ -42,16 +42,27 @@ use Rattle.number_runs.specs.Statements.{are_statements, behind_stored, is_line,
 use Rattle.number_runs.specs.Statements.{is_pointed, pointer_sets, statement_needs}
 use Rattle.number_runs.specs.Statements.{statement_sets, statements_need, statements_set, stored_needs, stored_sets}
 use Rattle.number_runs.specs.Statements.{allocation_sets, behind_sets, freeing_sets, is_allocation, is_freeing}
-use Rattle.number_runs.proofs.Arrays.{element_is}
+use Rattle.number_runs.proofs.Arrays.{element_is, asked_is}
 use Rattle.number_runs.proofs.Based.{allocation_is, freeing_is, through_is}
 use Rattle.number_runs.proofs.Counters.{IsCounting, counting_is, counting_of, statement_is}
+use Rattle.number_runs.proofs.Taking.{Sets, Takes, next_number, one_more, sets_both, sets_either, sets_no_words}
+use Rattle.number_runs.proofs.Taking.{sets_none, sets_signed, takes_either, takes_next, takes_none, takes_of}
+use Rattle.number_runs.proofs.Taking.{takes_signed}
 use Rattle.number_runs.proofs.Unset.{number_unset, test_unset}
 use Rattle.number_runs.proofs.Narrow.{narrow_with_is}
 use Rattle.number_runs.proofs.Pointed.{by_pointed, compared_by}
-use Rattle.number_runs.proofs.Taking.{Fits, Sets, Takes, list_takes, one_more, scalar_takes, sets_either, sets_no_words}
-use Rattle.number_runs.proofs.Taking.{sets_none, sets_signed, sets_two, subscript_takes, takes_either, takes_next}
-use Rattle.number_runs.proofs.Taking.{takes_none, takes_of, through_takes, unlocated_takes, whole_takes}
+use Rattle.number_runs.proofs.Taking.{Fits, list_takes, scalar_takes}
+use Rattle.number_runs.proofs.Taking.{sets_two, subscript_takes}
+use Rattle.number_runs.proofs.Taking.{through_takes, unlocated_takes, whole_takes}
 use Rattle.number_runs.proofs.Variables.{behind_number, sets_number}
+
+-- where nothing is located
+subscripts_front : (n p : ℕ) (t a : Taken) → Sets n p t a → Sets n (max 0 p) t (most_taken t a)
+subscripts_front n p t a x =
+    let c = x.registers in
+    let u = x.words in
+    record { registers = omega (arith, c); words = omega (arith, u) }
+
 
 pub narrow_taken :
     (s : Scope) (test : Y.LeafType → Bool) (r : Y.Reference) (t : Taken) → is_narrow_with s test r ≡ true →
@@ -60,11 +71,14 @@ narrow_taken s test r t h =
     let w = narrow_with_is s test r h in
     subst (λ q. Sets (reference_needs q) (reference_sets q) t (reference_takes t q)) (sym w.is) (whole_takes t w.spot)
 
-flag_taken :
-    (s : Scope) (r : Y.Reference) (t : Taken) → is_narrow_with s is_bit r ≡ true → Sets 0 0 t (bit_takes t (Y.BitIn r))
-flag_taken s r t h =
-    let w = narrow_with_is s is_bit r h in
-    subst (λ q. Sets 0 0 t (reference_takes t q)) (sym w.is) (whole_takes t w.spot)
+-- one whose type passes a test, or an element
+narrow_or_item :
+    (s : Scope) (test : Y.LeafType → Bool) (r : Y.Reference) (t : Taken) →
+    (is_narrow_with s test r ≡ true) ⊎ (is_item s test r ≡ true) →
+    (is_item s test r ≡ true → Sets (reference_needs r) (reference_sets r) t (reference_takes t r)) →
+    Sets (reference_needs r) (reference_sets r) t (reference_takes t r)
+narrow_or_item s test r t (inl h) item = narrow_taken s test r t h
+narrow_or_item s test r t (inr h) item = item h
 
 text_in_taken :
     (s : Scope) (r : Y.Reference) (t : Taken) → is_narrow_with s is_text_type r ≡ true →
@@ -79,11 +93,39 @@ text_in_taken s r t h =
 
 named_taken :
     (s : Scope) (r : Y.Reference) (t : Taken) →
-    (is_reference s r ≡ true) ⊎ (is_narrow_with s is_number_type r ≡ true) →
+    (is_reference s r ≡ true) ⊎ ((is_narrow_with s is_number_type r || is_item s is_number_type r) ≡ true) →
     (is_reference s r ≡ true → Sets (reference_needs r) (reference_sets r) t (reference_takes t r)) →
+    (is_item s is_number_type r ≡ true → Sets (reference_needs r) (reference_sets r) t (reference_takes t r)) →
     Sets (reference_needs r) (reference_sets r) t (reference_takes t r)
-named_taken s r t (inl h) one = one h
-named_taken s r t (inr h) one = narrow_taken s is_number_type r t h
+named_taken s r t (inl h) one item = one h
+named_taken s r t (inr h) one item =
+    narrow_or_item s is_number_type r t
+    (or_cases (is_narrow_with s is_number_type r) (is_item s is_number_type r) h) item
+
+-- of a dimension
+asked_taken :
+    (s : Scope) (r : Y.Reference) (dimension : ℕ) (t : Taken) → is_asked s r dimension ≡ true →
+    Sets 0 0 t (reference_takes t r)
+asked_taken s r dimension t h =
+    let w = asked_is s r dimension h in
+    subst (λ q. Sets 0 0 t (reference_takes t q)) (sym w.is) (whole_takes t w.spot)
+
+-- an element, whose subscripts wait
+element_taken :
+    (s : Scope) (test : Y.LeafType → Bool) (v : Y.Variable) (part : Y.Part) (first : Y.Number) (rest : Y.Numbers)
+    (t : Taken) → is_element s test v part (suc (given_in rest)) ≡ true →
+    Fits t (max (number_needs first) (suc (subscripts_need rest))) →
+    Sets (number_needs first) (number_sets first) t (number_takes t first) →
+    Sets (subscripts_need rest) (numbers_set rest) (one_more t) (subscripts_take (one_more t) rest) →
+    Sets (max (number_needs first) (suc (subscripts_need rest))) (max 0 (max (number_sets first) (numbers_set rest))) t
+    (reference_takes t (Y.Referring v Y.NotLocated part (Y.NumberThen first rest)))
+element_taken s test v part first rest t h fits one more =
+    let xs = Y.NumberThen first rest in
+    let w = element_is s test v part xs h in
+    subst (λ r. Sets (subscripts_need xs) (max 0 (numbers_set xs)) t (reference_takes t r)) (sym w.is)
+    (subscripts_front (subscripts_need xs) (numbers_set xs) t (subscripts_take t xs)
+    (sets_two (number_needs first) (subscripts_need rest) (number_sets first) (numbers_set rest) t
+    (number_takes t first) (λ u. subscripts_take u rest) fits one more))
 
 given_are :
     (s : Scope) (number level : ℕ) (xs : Y.Arguments) → is_number s (Y.NumberFrom (Y.Calling number level xs)) ≡ true →
@@ -125,8 +167,8 @@ mutual
       Sets (number_needs x) (number_sets x) t (number_takes t x)
   number_taken s (Y.NumberConstant n) t h fits = sets_none t
   number_taken s (Y.NumberIn r) t h fits =
-      named_taken s r t (or_cases (is_reference s r) (is_narrow_with s is_number_type r) h)
-      (λ one. reference_taken s r t one fits)
+      named_taken s r t (or_cases (is_reference s r) (is_narrow_with s is_number_type r || is_item s is_number_type r) h)
+      (λ one. reference_taken s r t one fits) (λ one. item_taken s is_number_type r t one fits)
   number_taken s (Y.NumberFrom c) t h fits = call_taken s c t h fits
   number_taken s (Y.Signed sign x) t h fits =
       sets_signed (number_needs x) (number_sets x) t (number_takes t x) (omega (arith, fits))
@@ -177,9 +219,10 @@ mutual
       let a = and_parts (is_text g x) (is_text g y) (and_parts s.texts (is_text g x && is_text g y) h).1 in
       two_texts_taken x y t (text_taken g x t (refl, refl) a.0 (omega (arith, fits)))
       (text_taken g y t (refl, refl) a.1 (omega (arith, fits)))
-  number_taken s (Y.LowerBound r n) t h fits = absurd (cc h)
-  number_taken s (Y.UpperBound r n) t h fits = absurd (cc h)
-  number_taken s (Y.ElementsOf r n) t h fits = absurd (cc h)
+  number_taken s (Y.LowerBound r n) t h fits = asked_taken s r n t h
+  number_taken s (Y.UpperBound r n) t h fits = asked_taken s r n t h
+  number_taken s (Y.ElementsOf r n) t h fits =
+      sets_signed 0 0 t (reference_takes t r) (omega (arith, fits)) (asked_taken s r n t h)
   number_taken s (Y.AllocationsOf v) t h fits = absurd (cc h)
   number_taken s Y.OnCode t h fits = sets_none t
 
@@ -226,23 +269,39 @@ mutual
   reference_taken s (Y.Referring v Y.NotLocated part Y.NoNumber) t h fits =
       let r = Y.Referring v Y.NotLocated part Y.NoNumber in
       scalar_takes s r t (or_cases (is_variable s r) (is_given s r) h)
-  reference_taken s (Y.Referring v Y.NotLocated part (Y.NumberThen subscript Y.NoNumber)) t h fits =
-      let a = and_parts (is_element s v part) (is_number s subscript && is_wider s subscript) h in
-      let number = (and_parts (is_number s subscript) (is_wider s subscript) a.1).0 in
-      let w = element_is s v part subscript a.0 in
-      let need = max (number_needs subscript) 1 in
-      subst (λ r. Sets need (max 0 (max (number_sets subscript) 0)) t (reference_takes t r)) (sym w.is)
-      (unlocated_takes need (max (number_sets subscript) 0) t
-      (most_taken t (most_taken (number_takes t subscript) (with_number t)))
-      (subscript_takes (number_needs subscript) (number_sets subscript) t (number_takes t subscript)
-      (omega (arith, fits)) (number_taken s subscript t number (omega (arith, fits)))))
-  reference_taken s (Y.Referring v Y.NotLocated part (Y.NumberThen first (Y.NumberThen second rest))) t h fits =
-      absurd (cc h)
+  reference_taken s (Y.Referring v Y.NotLocated part (Y.NumberThen first rest)) t h fits =
+      let a = and_parts (is_element s is_fixed v part (suc (given_in rest))) (is_number s first && are_numbers s rest)
+      h in
+      let b = and_parts (is_number s first) (are_numbers s rest) a.1 in
+      element_taken s is_fixed v part first rest t a.0 fits (number_taken s first t b.0 (omega (arith, fits)))
+      (subscripts_taken s rest (one_more t) b.1 (omega (arith, fits)))
   reference_taken s (Y.Referring v (Y.LocatedBy p) part Y.NoNumber) t h fits =
       let w = through_is s is_word_type v p part h in
       subst (λ r. Sets (reference_needs r) (reference_sets r) t (reference_takes t r)) (sym w.is)
       (through_takes t w.pointer w.based w.member)
   reference_taken s (Y.Referring v (Y.LocatedBy p) part (Y.NumberThen first rest)) t h fits = absurd (cc h)
+
+  pub item_taken :
+      (s : Scope) (test : Y.LeafType → Bool) (r : Y.Reference) (t : Taken) → is_item s test r ≡ true →
+      Fits t (reference_needs r) → Sets (reference_needs r) (reference_sets r) t (reference_takes t r)
+  item_taken s test (Y.Referring v Y.NotLocated part (Y.NumberThen first rest)) t h fits =
+      let a = and_parts (is_element s test v part (suc (given_in rest))) (is_number s first && are_numbers s rest) h in
+      let b = and_parts (is_number s first) (are_numbers s rest) a.1 in
+      element_taken s test v part first rest t a.0 fits (number_taken s first t b.0 (omega (arith, fits)))
+      (subscripts_taken s rest (one_more t) b.1 (omega (arith, fits)))
+  item_taken s test (Y.Referring v Y.NotLocated part Y.NoNumber) t h fits = absurd (cc h)
+  item_taken s test (Y.Referring v (Y.LocatedBy p) part subscripts) t h fits = absurd (cc h)
+
+  -- each waits while the next are computed
+  subscripts_taken :
+      (s : Scope) (xs : Y.Numbers) (t : Taken) → are_numbers s xs ≡ true → Fits t (subscripts_need xs) →
+      Sets (subscripts_need xs) (numbers_set xs) t (subscripts_take t xs)
+  subscripts_taken s Y.NoNumber t h fits = sets_none t
+  subscripts_taken s (Y.NumberThen first rest) t h fits =
+      let a = and_parts (is_number s first) (are_numbers s rest) h in
+      sets_two (number_needs first) (subscripts_need rest) (number_sets first) (numbers_set rest) t
+      (number_takes t first) (λ u. subscripts_take u rest) fits (number_taken s first t a.0 (omega (arith, fits)))
+      (subscripts_taken s rest (one_more t) a.1 (omega (arith, fits)))
 
   numbers_taken :
       (s : Scope) (xs : Y.Numbers) (t : Taken) → are_numbers s xs ≡ true → Fits t (numbers_need xs) →
@@ -274,7 +333,9 @@ mutual
       sets_two (test_needs left) (test_needs right) (test_sets left) (test_sets right) t (bit_takes t left)
       (λ u. bit_takes u right) fits
       (test_taken s left t a.0 (omega (arith, fits))) (test_taken s right (one_more t) a.1 (omega (arith, fits)))
-  test_taken s (Y.BitIn r) t h fits = flag_taken s r t h
+  test_taken s (Y.BitIn r) t h fits =
+      narrow_or_item s is_bit r t (or_cases (is_narrow_with s is_bit r) (is_item s is_bit r) h)
+      (λ one. item_taken s is_bit r t one fits)
   test_taken s (Y.BitFrom c) t h fits = absurd (cc h)
   test_taken s (Y.BitOfText x) t h fits =
       sets_no_words (text_needs x) t (text_takes t x)
@@ -320,6 +381,14 @@ mutual
       (unset_taken s start t none b.0 (number_taken s start t b.0 (omega (arith, fits))))
       (takes_next (number_needs count) t (λ u. number_takes u count) (omega (arith, fits))
       (unset_taken s count (one_more t) none b.1 (number_taken s count (one_more t) b.1 (omega (arith, fits))))))
+
+flag_taken :
+    (s : Scope) (test : Y.LeafType → Bool) (r : Y.Reference) (t : Taken) →
+    (is_narrow_with s test r || is_item s test r) ≡ true → Fits t (reference_needs r) →
+    Sets (reference_needs r) (reference_sets r) t (reference_takes t r)
+flag_taken s test r t h fits =
+    narrow_or_item s test r t (or_cases (is_narrow_with s test r) (is_item s test r) h)
+    (λ one. item_taken s test r t one fits)
 
 -- ---- statements, where only words are taken yet
 
@@ -371,7 +440,7 @@ pointed_taken words s target x h =
       linked = λ may c p n m y known member other. record { registers = omega arith; words = omega arith };
     }) target x h
 
--- a scalar of fewer bits takes nothing itself
+-- a variable, or an element, of fewer bits
 narrowed_taken :
     (words : ℕ) (s : Scope) (target : Y.Reference) (source : Y.Stored) → is_narrowed s target source ≡ true →
     max (stored_needs source) (behind_stored source (reference_needs target)) ≤ held_registers →
@@ -379,10 +448,10 @@ narrowed_taken :
     (max (stored_sets source) (behind_sets source (reference_sets target)))
     (set_aside words) (assigned_takes (set_aside words) target source)
 narrowed_taken words s target (Y.StoredNumber precision x) h fits =
-    let narrow = is_narrow_with s (has_precision precision) target in
+    let narrow = is_narrow_with s (has_precision precision) target || is_item s (has_precision precision) target in
     let c = and_parts s.overflows (narrow && is_number s x) h in
     let d = and_parts narrow (is_number s x) c.1 in
-    let a = narrow_taken s (has_precision precision) target (with_number (set_aside words)) d.0 in
+    let a = flag_taken s (has_precision precision) target (with_number (set_aside words)) d.0 (omega (arith, fits)) in
     let b = number_taken s x (set_aside words) d.1 (omega (arith, fits)) in
     let p = b.registers in
     let q = a.registers in
@@ -390,8 +459,8 @@ narrowed_taken words s target (Y.StoredNumber precision x) h fits =
     let v = b.words in
     record { registers = omega (arith, p, q); words = omega (arith, u, v) }
 narrowed_taken words s target (Y.StoredBit x) h fits =
-    let d = and_parts (is_narrow_with s is_bit target) (is_test s x) h in
-    let a = narrow_taken s is_bit target (with_number (set_aside words)) d.0 in
+    let d = and_parts (is_narrow_with s is_bit target || is_item s is_bit target) (is_test s x) h in
+    let a = flag_taken s is_bit target (with_number (set_aside words)) d.0 (omega (arith, fits)) in
     let b = test_taken s x (set_aside words) d.1 (omega (arith, fits)) in
     let p = b.registers in
     let q = a.registers in

@@ -19,7 +19,7 @@ use Rattle.program_runs.specs.Statements.{Block, IsBegun, IsOwn, set_aside}
 use Rattle.expression_runs.specs.Values.{in_registers}
 use Rattle.counter_runs.specs.Counts.{Counting, IsStep, body_index, count_of, turn_in}
 use Rattle.counter_runs.specs.Words.{telling, with_word}
-use Rattle.counter_runs.proofs.Known.{array_told, number_told}
+use Rattle.counter_runs.proofs.Known.{number_told}
 use Rattle.counter_runs.proofs.Limits.{limit_size}
 use Rattle.counter_runs.proofs.Turns.{coded, starts_code, while_long}
 use Rattle.counter_runs.proofs.Words.{begun_telling}
@@ -27,6 +27,7 @@ use Rattle.number_runs.specs.Knowledge.{AreStandingWith, HasFrame, IsHome, IsRea
 use Rattle.number_runs.specs.Knowledge.{StandingWith, KnowsAroundTexts, KnowsCalls, KnowsRaises, KnowsPuts, KnowsReads}
 use Rattle.number_runs.specs.Knowledge.{GoesThrough}
 use Rattle.number_runs.specs.Numbers.{Scope, bounds_known, type_known, without_located}
+use Rattle.number_runs.proofs.Arrays.{array_told}
 use Rattle.number_runs.proofs.Narrow.{narrow_told}
 use Rattle.parameter_runs.proofs.Passing.{around_told}
 use Rattle.number_runs.proofs.Received.{passable_told, stored_untold}

@@ -14,7 +14,7 @@ use Rattle.pli_coding.specs.Statements.{block_takes, block_words, stmt_takes, st
 use Rattle.number_runs.specs.Counting.{condition_sets, is_condition, is_count}
 use Rattle.number_runs.specs.Narrow.{has_precision, is_bit, is_text_type}
 use Rattle.number_runs.specs.Numbers.{Scope, are_arguments, gives_lists, is_fixed, is_number, is_reference, is_test}
-use Rattle.number_runs.specs.Numbers.{is_narrow_with, reference_sets, is_text, without_given, IsBare, without_located}
+use Rattle.number_runs.specs.Numbers.{is_item, is_narrow_with, reference_sets, is_text, without_given, IsBare, without_located}
 use Rattle.number_runs.specs.Statements.{are_statements, is_line, is_statement, is_stored, statement_needs}
 use Rattle.number_runs.specs.Statements.{behind_sets, is_allocation, is_freeing}
 use Rattle.number_runs.specs.Statements.{is_narrowed, statement_sets, statements_need, statements_set, stored_sets}
@@ -27,7 +27,7 @@ use Rattle.number_runs.proofs.BlocksTaken.{block_sets, plain_known}
 use Rattle.number_runs.proofs.Based.{allocation_is, freeing_is}
 use Rattle.number_runs.proofs.Pointed.{pointed_may}
 use Rattle.number_runs.proofs.Variables.{sets_number}
-use Rattle.number_runs.proofs.Unset.{narrow_unset, number_unset, reference_unset, test_unset}
+use Rattle.number_runs.proofs.Unset.{narrow_unset, number_unset, reference_unset, test_unset, flag_unset}
 
 stored_unset : (s : Scope) (x : Y.Stored) → IsBare s → is_stored s x ≡ true → stored_sets x ≡ 0
 stored_unset s (Y.StoredNumber precision x) none h =
@@ -41,16 +41,16 @@ narrowed_unset :
     (s : Scope) (target : Y.Reference) (source : Y.Stored) → IsBare s → is_narrowed s target source ≡ true →
     max (stored_sets source) (behind_sets source (reference_sets target)) ≡ 0
 narrowed_unset s target (Y.StoredNumber precision x) none h =
-    let narrow = is_narrow_with s (has_precision precision) target in
+    let narrow = is_narrow_with s (has_precision precision) target || is_item s (has_precision precision) target in
     let a = and_parts s.overflows (narrow && is_number s x) h in
     let b = and_parts narrow (is_number s x) a.1 in
     let m = number_unset s x none b.1 in
-    let n = narrow_unset s (has_precision precision) target b.0 in
+    let n = flag_unset s (has_precision precision) target none b.0 in
     omega (arith, m, n)
 narrowed_unset s target (Y.StoredBit x) none h =
-    let a = and_parts (is_narrow_with s is_bit target) (is_test s x) h in
+    let a = and_parts (is_narrow_with s is_bit target || is_item s is_bit target) (is_test s x) h in
     let m = test_unset s x none a.1 in
-    let n = narrow_unset s is_bit target a.0 in
+    let n = flag_unset s is_bit target none a.0 in
     omega (arith, m, n)
 narrowed_unset s target (Y.StoredText x) none h =
     let narrow = is_narrow_with s is_text_type target in

@@ -1,14 +1,14 @@
 -- Where calls have no arguments, and nothing that is BASED is reached, numbers set no words of the frame aside.
 use Rattle.std.proofs.Common.{◌≡◌, ◌⊎◌, inl, inr, Bool, true, false, refl, sym, ap, ◌∙◌, arith}
-use Rattle.std.specs.Prelude.{◌&&◌, ◌==◌, suc}
+use Rattle.std.specs.Prelude.{◌&&◌, ◌||◌, ◌==◌, suc}
 use Rattle.std.proofs.lemmas.Bool.{and_parts, or_cases}
 use Rattle.pli_typing.specs.TypedTree as Y
-use Rattle.pli_coding.specs.Expressions.{argument_count}
+use Rattle.pli_coding.specs.Expressions.{argument_count, given_in}
 use Rattle.number_runs.specs.Numbers.{Scope, are_arguments, are_numbers, call_sets, gives_lists, is_element}
 use Rattle.number_runs.specs.Numbers.{is_number, is_reference}
 use Rattle.number_runs.specs.Numbers.{is_test, may_calculate, number_sets, numbers_set, reference_sets, test_sets}
-use Rattle.number_runs.specs.Numbers.{is_narrow_with, is_wider, IsBare}
-use Rattle.number_runs.specs.Narrow.{is_number_type}
+use Rattle.number_runs.specs.Numbers.{is_narrow_with, IsBare, is_fixed, is_item}
+use Rattle.number_runs.specs.Narrow.{is_number_type, is_bit}
 use Rattle.number_runs.specs.Based.{is_word_type}
 use Rattle.number_runs.proofs.Based.{through_is}
 use Rattle.number_runs.proofs.Narrow.{narrow_with_is}
@@ -30,18 +30,29 @@ narrow_unset s test r h =
     let w = narrow_with_is s test r h in
     ap reference_sets w.is
 
+-- one whose type passes a test, or an element
+narrow_or_item :
+    (s : Scope) (test : Y.LeafType → Bool) (r : Y.Reference) →
+    (is_narrow_with s test r ≡ true) ⊎ (is_item s test r ≡ true) → (is_item s test r ≡ true → reference_sets r ≡ 0) →
+    reference_sets r ≡ 0
+narrow_or_item s test r (inl h) item = narrow_unset s test r h
+narrow_or_item s test r (inr h) item = item h
+
 named_unset :
-    (s : Scope) (r : Y.Reference) → (is_reference s r ≡ true) ⊎ (is_narrow_with s is_number_type r ≡ true) →
-    (is_reference s r ≡ true → reference_sets r ≡ 0) → reference_sets r ≡ 0
-named_unset s r (inl h) one = one h
-named_unset s r (inr h) one = narrow_unset s is_number_type r h
+    (s : Scope) (r : Y.Reference) →
+    (is_reference s r ≡ true) ⊎ ((is_narrow_with s is_number_type r || is_item s is_number_type r) ≡ true) →
+    (is_reference s r ≡ true → reference_sets r ≡ 0) → (is_item s is_number_type r ≡ true → reference_sets r ≡ 0) →
+    reference_sets r ≡ 0
+named_unset s r (inl h) one item = one h
+named_unset s r (inr h) one item =
+    narrow_or_item s is_number_type r (or_cases (is_narrow_with s is_number_type r) (is_item s is_number_type r) h) item
 
 mutual
   pub number_unset : (s : Scope) (x : Y.Number) → IsBare s → is_number s x ≡ true → number_sets x ≡ 0
   number_unset s (Y.NumberConstant n) none h = refl
   number_unset s (Y.NumberIn r) none h =
-      named_unset s r (or_cases (is_reference s r) (is_narrow_with s is_number_type r) h)
-      (λ one. reference_unset s r none one)
+      named_unset s r (or_cases (is_reference s r) (is_narrow_with s is_number_type r || is_item s is_number_type r) h)
+      (λ one. reference_unset s r none one) (λ one. item_unset s is_number_type r none one)
   number_unset s (Y.NumberFrom c) none h = call_unset s c none h
   number_unset s (Y.Signed sign x) none h =
       number_unset s x none (and_parts s.overflows (is_number s x) h).1
@@ -86,15 +97,28 @@ mutual
   pub reference_unset :
       (s : Scope) (r : Y.Reference) → IsBare s → is_reference s r ≡ true → reference_sets r ≡ 0
   reference_unset s (Y.Referring v Y.NotLocated part Y.NoNumber) none h = refl
-  reference_unset s (Y.Referring v Y.NotLocated part (Y.NumberThen subscript Y.NoNumber)) none h =
-      let a = and_parts (is_element s v part) (is_number s subscript && is_wider s subscript) h in
-      let n = number_unset s subscript none (and_parts (is_number s subscript) (is_wider s subscript) a.1).0 in
-      omega (arith, n)
-  reference_unset s (Y.Referring v Y.NotLocated part (Y.NumberThen first (Y.NumberThen second rest))) none h =
-      absurd (cc h)
+  reference_unset s (Y.Referring v Y.NotLocated part (Y.NumberThen first rest)) none h =
+      let a = and_parts (is_element s is_fixed v part (suc (given_in rest))) (is_number s first && are_numbers s rest)
+      h in
+      let b = and_parts (is_number s first) (are_numbers s rest) a.1 in
+      let m = number_unset s first none b.0 in
+      let n = numbers_unset s rest none b.1 in
+      omega (arith, m, n)
   reference_unset s (Y.Referring v (Y.LocatedBy p) part Y.NoNumber) none h =
       absurd (cc (sym none.1 ∙ (through_is s is_word_type v p part h).may))
   reference_unset s (Y.Referring v (Y.LocatedBy p) part (Y.NumberThen first rest)) none h = absurd (cc h)
+
+  pub item_unset :
+      (s : Scope) (test : Y.LeafType → Bool) (r : Y.Reference) → IsBare s → is_item s test r ≡ true →
+      reference_sets r ≡ 0
+  item_unset s test (Y.Referring v Y.NotLocated part (Y.NumberThen first rest)) none h =
+      let a = and_parts (is_element s test v part (suc (given_in rest))) (is_number s first && are_numbers s rest) h in
+      let b = and_parts (is_number s first) (are_numbers s rest) a.1 in
+      let m = number_unset s first none b.0 in
+      let n = numbers_unset s rest none b.1 in
+      omega (arith, m, n)
+  item_unset s test (Y.Referring v Y.NotLocated part Y.NoNumber) none h = absurd (cc h)
+  item_unset s test (Y.Referring v (Y.LocatedBy p) part subscripts) none h = absurd (cc h)
 
   numbers_unset :
       (s : Scope) (xs : Y.Numbers) → IsBare s → are_numbers s xs ≡ true → numbers_set xs ≡ 0
@@ -123,10 +147,19 @@ mutual
       let m = test_unset s left none a.0 in
       let n = test_unset s right none a.1 in
       omega (arith, m, n)
-  test_unset s (Y.BitIn r) none h = refl
+  test_unset s (Y.BitIn r) none h =
+      narrow_or_item s is_bit r (or_cases (is_narrow_with s is_bit r) (is_item s is_bit r) h)
+      (λ one. item_unset s is_bit r none one)
   test_unset s (Y.BitFrom c) none h = refl
   test_unset s (Y.BitOfText x) none h = refl
   test_unset s (Y.TextsCompared comparison left right) none h = refl
   test_unset s (Y.PointersCompared equal left right) none h =
       absurd (cc (sym none.1 ∙ compared_may s left right h))
   test_unset s (Y.OffsetsCompared equal left right) none h = refl
+
+pub flag_unset :
+    (s : Scope) (test : Y.LeafType → Bool) (r : Y.Reference) → IsBare s →
+    (is_narrow_with s test r || is_item s test r) ≡ true → reference_sets r ≡ 0
+flag_unset s test r none h =
+    narrow_or_item s test r (or_cases (is_narrow_with s test r) (is_item s test r) h)
+    (λ one. item_unset s test r none one)

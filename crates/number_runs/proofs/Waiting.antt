@@ -1,15 +1,15 @@
 -- What is known around expressions is known while texts wait.
 use Rattle.std.proofs.Common.{◌≡◌, List, [], ◌++◌, sym, ap, ◌∙◌, subst}
 use Rattle.std.proofs.lemmas.List.{append_assoc}
-use Rattle.pli_typing.specs.Signatures.{Bounds}
 use Rattle.pli_typing.specs.TypedTree as Y
 use Rattle.pli_serving.specs.ServiceState.{Entry}
 use Rattle.program_runs.specs.Statements.{Block, waiting, with_texts}
 use Rattle.program_runs.proofs.Waiting.{begun_waits}
 use Rattle.expression_runs.specs.Values.{Setting}
 use Rattle.expression_runs.specs.Variables.{Spot}
-use Rattle.element_runs.specs.Arrays.{IsArray}
 use Rattle.parameter_runs.specs.Around.{IsParameterAround}
+use Rattle.array_runs.specs.Arrays.{Grid, IsArray}
+use Rattle.array_runs.proofs.Outer.{outer_array}
 use Rattle.variable_runs.specs.Known.{IsKnown}
 use Rattle.scalar_runs.specs.Scalars.{IsScalar}
 use Rattle.text_runs.specs.Waiting.{over}
@@ -38,9 +38,9 @@ known_waits k entries x d h =
     }
 
 pub array_waits :
-    (k : Block) (entries : List Entry) (x : Spot) (b : Bounds) → IsArray k x b → IsArray (waiting entries k) x b
-array_waits k entries x b is =
-    record { initial = is.initial; known = known_waits k entries x _ is.known; bounds = is.bounds }
+    (k : Block) (entries : List Entry) (x : Spot) (g : Grid) → IsArray k x g → IsArray (waiting entries k) x g
+array_waits k entries x g is =
+    outer_array k (waiting entries k) x g (λ d known. known_waits k entries x d known) is
 
 pub narrow_waits :
     (k : Block) (entries : List Entry) (x : Spot) (t : Y.LeafType) → IsScalar k x t → IsScalar (waiting entries k) x t

@@ -33,7 +33,7 @@ use Rattle.variable_runs.proofs.ListsAmong.{begun_among}
 use Rattle.function_runs.specs.Functions.{function_block}
 use Rattle.variable_runs.proofs.Known.{known_begun, known_number}
 use Rattle.variable_runs.proofs.Lists.{next_layers}
-use Rattle.element_runs.specs.Arrays.{IsArray}
+use Rattle.array_runs.specs.Arrays.{IsArray}
 use Rattle.number_runs.specs.Initial.{values_of}
 use Rattle.number_runs.specs.Arrays.{array_bounds, bounds_if, is_array, is_array_if}
 use Rattle.scalar_runs.specs.Scalars.{IsScalar}
@@ -43,7 +43,7 @@ use Rattle.number_runs.specs.Variables.{EachBegins}
 use Rattle.number_runs.specs.Variables.{AreTabled, HasWords, HaveRoom, IsOwnArray, IsOwnNarrow, IsOwnWord, IsTabled}
 use Rattle.number_runs.specs.Variables.{are_plain, bytes_of, is_declared, own_bounds, own_type, variable_bytes}
 use Rattle.number_runs.specs.Variables.{words_from, words_in}
-use Rattle.number_runs.proofs.Arrays.{array_is, bounds_are}
+use Rattle.number_runs.proofs.Arrays.{array_is, grid_of, type_of}
 use Rattle.number_runs.proofs.Declared.{makeable, sized}
 use Rattle.number_runs.proofs.Narrow.{narrow_is}
 use Rattle.number_runs.proofs.Variables.{plain_is}
@@ -493,7 +493,9 @@ array_known k x o f known =
     (record {
       initial = values_of f.declared;
       known = subst (λ d. IsKnown k x d) (array_is f.declared f.array) known;
-      bounds = bounds_are f.declared f.array;
+      type = type_of (grid_of f.declared f.array);
+      bounds = (grid_of f.declared f.array).bounds;
+      some = (grid_of f.declared f.array).some;
     })
 
 -- and a scalar of fewer bits the type

@@ -18,7 +18,7 @@ use Rattle.program_runs.specs.Variables.{Declared}
 use Rattle.expression_runs.specs.Variables.{IsNumber, Spot, variable_of}
 use Rattle.variable_runs.specs.Known.{IsKnown}
 use Rattle.variable_runs.specs.Lists.{AreAllBegun, newest_all}
-use Rattle.element_runs.specs.Arrays.{IsArray}
+use Rattle.array_runs.specs.Arrays.{IsArray}
 use Rattle.scalar_runs.specs.Scalars.{IsScalar}
 use Rattle.area_runs.specs.Allocations.{HasArea}
 use Rattle.area_runs.specs.Based.{pointer_declared}

@@ -43,7 +43,7 @@ use Rattle.get_runs.specs.Gets.{EndfileComes}
 use Rattle.program_places.specs.Laws.{IsLabel}
 use Rattle.program_places.specs.Placed.{Placed}
 use Rattle.counter_runs.specs.Words.{telling}
-use Rattle.element_runs.specs.Arrays.{IsArray}
+use Rattle.array_runs.specs.Arrays.{IsArray}
 use Rattle.element_runs.specs.Subscripts.{SubscriptComes}
 use Rattle.parameter_runs.specs.Around.{IsParameterAround}
 use Rattle.list_calls.specs.Arguments.{EachGives, Way, arguments_of, setting_told}

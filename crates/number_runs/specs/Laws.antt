@@ -17,8 +17,8 @@ use Rattle.expression_runs.specs.Assignments.{setting_around}
 use Rattle.expression_runs.specs.Laws as L
 use Rattle.expression_runs.specs.Values.{Setting}
 use Rattle.expression_runs.specs.Variables.{IsNumber, Spot}
-use Rattle.element_runs.specs.Arrays.{IsArray}
 use Rattle.parameter_runs.specs.Around.{IsParameterAround}
+use Rattle.array_runs.specs.Arrays.{IsArray}
 use Rattle.test_runs.specs.Tests.{Tests}
 use Rattle.number_runs.specs.Knowledge.{AreAround, AreStanding, HasFrame, HasLists, IsReady, IsUnraised, KnowsLists}
 use Rattle.number_runs.specs.Knowledge.{KnowsNumbers, KnowsPuts, KnowsRaises, Standing, KnowsAroundTexts}

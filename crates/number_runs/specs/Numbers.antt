@@ -1,18 +1,18 @@
 -- Expressions of FIXED BINARY(31) numbers, tests of them, and texts, as a class that is computed from typed trees.
 use Rattle.std.specs.Prelude.{ℕ, suc, ◌+◌, ◌^◌, ◌==◌, ◌&&◌, ◌||◌, Bool, true, false, List, [], ◌∷◌, max, nat_le, nat_lt}
-use Rattle.std.specs.Prelude.{◌≡◌, length, not, Option, None, Some}
+use Rattle.std.specs.Prelude.{◌≡◌, length, Option, None, Some}
 use Rattle.std.specs.List.{list_any}
 use Rattle.pli_language.specs.declared.condition.Condition.{Condition}
-use Rattle.pli_typing.specs.Signatures.{Bounds}
 use Rattle.pli_typing.specs.TypedTree as Y
 use Rattle.pli_meaning.specs.Control.{Label}
 use Rattle.pli_meaning.specs.DeclaredShapes.{declared_variable}
 use Rattle.pli_meaning.specs.Texts.{most_text}
 use Rattle.pli_coding.specs.Environments.{BlockPlace}
-use Rattle.pli_coding.specs.Expressions.{argument_count, list_words}
+use Rattle.pli_coding.specs.Expressions.{argument_count, given_in, list_words}
 use Rattle.pli_coding.specs.Frames.{parameters_of_block}
 use Rattle.expression_runs.specs.Variables.{Spot, variable_of}
 use Rattle.argument_runs.specs.Parameters.{parameter_of}
+use Rattle.array_runs.specs.Arrays.{Grid}
 use Rattle.area_runs.specs.Based.{based_of}
 use Rattle.number_runs.specs.Initial.{are_values}
 use Rattle.number_runs.specs.Arrays.{bounds_if, is_array_if}
@@ -195,11 +195,6 @@ is_narrow_with s test (Y.Referring v Y.NotLocated part Y.NoNumber) =
     && ((part.count == 1) && (is_narrow_known s (spot_of v) && test (type_known s (spot_of v))))))
 is_narrow_with s test _ = false
 
--- a number that is none of these by itself
-abbrev pub is_wider : Scope → Y.Number → Bool
-is_wider s (Y.NumberIn r) = not (is_narrow_with s is_number_type r)
-is_wider s _ = true
-
 -- ---- parameters
 
 abbrev pub is_parameter_class : Y.StorageClass → Bool
@@ -235,18 +230,36 @@ is_passed s r = is_variable s r || is_given s r
 
 -- ---- arrays
 
--- one that is declared in one of these blocks, and its bounds
+-- one that is declared in one of these blocks, its type and its bounds
 abbrev pub is_array_known : Scope → Spot → Bool
 is_array_known s x = list_any (is_place x) s.blocks && is_array_if (declared_variable s.program (variable_of x))
 
-abbrev pub bounds_known : Scope → Spot → Bounds
+abbrev pub bounds_known : Scope → Spot → Grid
 bounds_known s x = bounds_if (declared_variable s.program (variable_of x))
 
--- an element of one
-abbrev pub is_element : Scope → Y.Variable → Y.Part → Bool
-is_element s v part =
+-- whose type passes a test, and which has so many dimensions
+abbrev pub is_grid_with : (Y.LeafType → Bool) → (count : ℕ) → Grid → Bool
+is_grid_with test count g = test g.type && (length g.bounds == count)
+
+-- an element of such a one
+abbrev pub is_element : Scope → (Y.LeafType → Bool) → Y.Variable → Y.Part → (count : ℕ) → Bool
+is_element s test v part count =
     s.elements
-    && (is_automatic v.class && ((part.first == 0) && ((part.count == 1) && is_array_known s (spot_of v))))
+    && (is_automatic v.class
+    && ((part.first == 0)
+    && ((part.count == 1)
+    && (is_array_known s (spot_of v) && is_grid_with test count (bounds_known s (spot_of v))))))
+
+-- a dimension of one, from 1
+abbrev pub is_asked : Scope → Y.Reference → (dimension : ℕ) → Bool
+is_asked s (Y.Referring v Y.NotLocated part Y.NoNumber) dimension =
+    s.elements
+    && (is_automatic v.class
+    && ((part.first == 0)
+    && ((part.count == 1)
+    && (is_array_known s (spot_of v)
+    && (nat_lt 0 dimension && nat_le dimension (length (bounds_known s (spot_of v)).bounds))))))
+is_asked s _ dimension = false
 
 -- ---- what pointers lead to
 
@@ -322,7 +335,8 @@ may_calculate s _ = s.overflows
 abbrev mutual
   pub is_number : Scope → Y.Number → Bool
   is_number s (Y.NumberConstant n) = nat_lt n (2 ^ 31)
-  is_number s (Y.NumberIn r) = is_reference s r || is_narrow_with s is_number_type r
+  is_number s (Y.NumberIn r) =
+      is_reference s r || (is_narrow_with s is_number_type r || is_item s is_number_type r)
   is_number s (Y.NumberFrom (Y.Calling number level Y.NoArgument)) = s.is_function level number
   is_number s (Y.NumberFrom (Y.Calling number level (Y.ArgumentThen first rest))) =
       gives_lists s
@@ -344,14 +358,23 @@ abbrev mutual
       s.texts && (is_text (without_given s) searched && is_text (without_given s) sought)
   is_number s (Y.VerifyOf searched allowed) =
       s.texts && (is_text (without_given s) searched && is_text (without_given s) allowed)
+  is_number s (Y.LowerBound r dimension) = is_asked s r dimension
+  is_number s (Y.UpperBound r dimension) = is_asked s r dimension
+  is_number s (Y.ElementsOf r dimension) = is_asked s r dimension
   is_number s Y.OnCode = s.codes
   is_number s _ = false
 
-  -- a variable, a parameter, an element of an array, or what a pointer leads to
+  -- an element of an array whose type passes a test
+  pub is_item : Scope → (Y.LeafType → Bool) → Y.Reference → Bool
+  is_item s test (Y.Referring v Y.NotLocated part (Y.NumberThen first rest)) =
+      is_element s test v part (suc (given_in rest)) && (is_number s first && are_numbers s rest)
+  is_item s test _ = false
+
+  -- a variable, a parameter, an element of an array of FIXED BINARY(31), or what a pointer leads to
   pub is_reference : Scope → Y.Reference → Bool
   is_reference s (Y.Referring v (Y.LocatedBy p) part Y.NoNumber) = is_located s is_word_type v p part
-  is_reference s (Y.Referring v Y.NotLocated part (Y.NumberThen subscript Y.NoNumber)) =
-      is_element s v part && (is_number s subscript && is_wider s subscript)
+  is_reference s (Y.Referring v Y.NotLocated part (Y.NumberThen first rest)) =
+      is_element s is_fixed v part (suc (given_in rest)) && (is_number s first && are_numbers s rest)
   is_reference s r = is_variable s r || is_given s r
 
   -- a number that is copied, or what is passed by reference
@@ -380,7 +403,7 @@ abbrev mutual
 
   pub is_test : Scope → Y.Bit → Bool
   is_test s (Y.BitConstant b) = true
-  is_test s (Y.BitIn r) = is_narrow_with s is_bit r
+  is_test s (Y.BitIn r) = is_narrow_with s is_bit r || is_item s is_bit r
   is_test s (Y.Negated x) = is_test s x
   is_test s (Y.Combined operator left right) = is_test s left && is_test s right
   is_test s (Y.NumbersCompared comparison left right) = is_number s left && is_number s right
@@ -408,6 +431,7 @@ abbrev mutual
   number_needs (Y.LengthOf x) = text_needs x
   number_needs (Y.IndexOf searched sought) = max (text_needs searched) (text_needs sought)
   number_needs (Y.VerifyOf searched allowed) = max (text_needs searched) (text_needs allowed)
+  number_needs (Y.ElementsOf r dimension) = 1
   number_needs _ = 0
 
   pub reference_needs : Y.Reference → ℕ
@@ -446,6 +470,7 @@ abbrev mutual
   text_needs _ = 0
 
   pub test_needs : Y.Bit → ℕ
+  test_needs (Y.BitIn r) = reference_needs r
   test_needs (Y.Negated x) = test_needs x
   test_needs (Y.Combined operator left right) = max (test_needs left) (suc (test_needs right))
   test_needs (Y.NumbersCompared comparison left right) = max (number_needs left) (suc (number_needs right))
@@ -499,6 +524,7 @@ abbrev mutual
   numbers_set (Y.NumberThen first rest) = max (number_sets first) (numbers_set rest)
 
   pub test_sets : Y.Bit → ℕ
+  test_sets (Y.BitIn r) = reference_sets r
   test_sets (Y.Negated x) = test_sets x
   test_sets (Y.Combined operator left right) = max (test_sets left) (test_sets right)
   test_sets (Y.NumbersCompared comparison left right) = max (number_sets left) (number_sets right)

@@ -10,7 +10,7 @@ use Rattle.number_runs.specs.Numbers.{Scope, call_needs, call_sets, are_argument
 use Rattle.number_runs.specs.Numbers.{is_reference, is_narrow_with, is_test, number_needs, number_sets}
 use Rattle.number_runs.specs.Numbers.{reference_needs, reference_sets, test_needs, test_sets, is_text, text_needs}
 use Rattle.number_runs.specs.Numbers.{without_given, is_area_known, is_automatic, is_based_variable, is_pointer_in}
-use Rattle.number_runs.specs.Numbers.{spot_of, without_located, is_followed, name_sets, inside}
+use Rattle.number_runs.specs.Numbers.{spot_of, without_located, is_followed, name_sets, inside, is_item}
 use Rattle.number_runs.specs.Narrow.{has_precision, is_bit, is_text_type}
 use Rattle.number_runs.specs.Puts.{is_put, put_needs, put_sets}
 use Rattle.number_runs.specs.Gets.{is_get}
@@ -34,11 +34,14 @@ is_pointed s target (Y.PointerIn r) =
     || (s.counts && (is_followed s target && is_pointer_in s r)))
 is_pointed s target _ = false
 
--- a number on its way into one of fewer bits, which is tested, a bit into a bit, a text, which is cut, or a name
+-- a number on its way into a variable or an element of fewer bits, which is tested, a bit into a bit, a text, which is
+-- cut, or a name
 abbrev pub is_narrowed : Scope → Y.Reference → Y.Stored → Bool
 is_narrowed s target (Y.StoredNumber precision x) =
-    s.overflows && (is_narrow_with s (has_precision precision) target && is_number s x)
-is_narrowed s target (Y.StoredBit x) = is_narrow_with s is_bit target && is_test s x
+    s.overflows
+    && ((is_narrow_with s (has_precision precision) target || is_item s (has_precision precision) target)
+    && is_number s x)
+is_narrowed s target (Y.StoredBit x) = (is_narrow_with s is_bit target || is_item s is_bit target) && is_test s x
 is_narrowed s target (Y.StoredText x) =
     s.texts && (is_narrow_with s is_text_type target && is_text (without_given s) x)
 is_narrowed s target (Y.StoredPointer x) = is_pointed s target x

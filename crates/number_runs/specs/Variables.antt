@@ -1,9 +1,9 @@
--- The variables of a procedure's block: FIXED BINARY(31) scalars and arrays of one dimension, scalars of other types,
+-- The variables of a procedure's block: FIXED BINARY(31) scalars, arrays of numbers and bits, scalars of other types,
 -- and pointers; to all but pointers INITIAL may give values.
 use Rattle.std.specs.Prelude.{ℕ, ◌+◌, ◌%◌, ◌^◌, ◌<◌, ◌≤◌, ◌≡◌, ◌&&◌, ◌||◌, Bool, true, List, [], ◌∷◌, length, Some}
 use Rattle.std.specs.Prelude.{Option, ⊤}
 use Rattle.rv_meaning.specs.declared.instr.Instr.{Instr}
-use Rattle.pli_typing.specs.Signatures.{Bounds, data_size, footprint}
+use Rattle.pli_typing.specs.Signatures.{data_size, footprint}
 use Rattle.pli_typing.specs.TypedTree as Y
 use Rattle.pli_meaning.specs.DeclaredShapes.{declared_variable, shape_of, variables_of_block}
 use Rattle.pli_meaning.specs.StorageState.{automatic_in_use, most_automatic}
@@ -25,7 +25,7 @@ use Rattle.program_runs.specs.Variables.{Declared}
 use Rattle.expression_runs.specs.Variables.{IsNumber, Spot, variable_of}
 use Rattle.variable_runs.specs.Lists.{AreAllBegun, newest_all}
 use Rattle.function_runs.specs.Functions.{function_block}
-use Rattle.element_runs.specs.Arrays.{IsArray}
+use Rattle.array_runs.specs.Arrays.{Grid, IsArray}
 use Rattle.scalar_runs.specs.Scalars.{IsScalar}
 use Rattle.number_runs.specs.Arrays.{bounds_if, is_array, is_array_if}
 use Rattle.number_runs.specs.Based.{is_area, is_based, is_pointer}
@@ -140,7 +140,7 @@ pub record IsOwnNarrow (c : Callee) (x : Spot) : Type 0 where
 abbrev pub own_type : Callee → Spot → Y.LeafType
 own_type c x = type_if (declared_variable c.environment.program (variable_of x))
 
-abbrev pub own_bounds : Callee → Spot → Bounds
+abbrev pub own_bounds : Callee → Spot → Grid
 own_bounds c x = bounds_if (declared_variable c.environment.program (variable_of x))
 
 pub record WordsMade : Type 0 where

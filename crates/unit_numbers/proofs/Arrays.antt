@@ -3,7 +3,6 @@
 use Rattle.std.proofs.Common.{◌≡◌, inl, inr, ℕ, ◌<◌, List, [], ◌∷◌, Some, true, false, refl, sym, ap, ◌∙◌, subst}
 use Rattle.std.specs.Prelude.{◌==◌, Bool, cond}
 use Rattle.pli_language.specs.declared.condition.Condition.{Condition}
-use Rattle.pli_typing.specs.Signatures.{Bounds}
 use Rattle.pli_typing.specs.TypedTree as Y
 use Rattle.pli_meaning.specs.StorageState as M
 use Rattle.pli_meaning.specs.StorageState.{Activation, ancestor, ancestor_at, binding_in, height_of}
@@ -19,9 +18,9 @@ use Rattle.program_runs.specs.Statements.{Block, Outer}
 use Rattle.expression_runs.specs.Variables.{IsFrameOf, IsNumber, Spot}
 use Rattle.jump_runs.proofs.Numbers.{leaving}
 use Rattle.variable_runs.specs.Known.{IsKnown}
-use Rattle.element_runs.specs.Arrays.{IsArray}
+use Rattle.array_runs.specs.Arrays.{Grid, IsArray}
 use Rattle.scalar_runs.specs.Scalars.{IsScalar}
-use Rattle.element_runs.proofs.Outer.{outer_array}
+use Rattle.array_runs.proofs.Outer.{outer_array}
 use Rattle.number_runs.proofs.Narrow.{outer_narrow}
 use Rattle.phase_runs.specs.Phases.{in_phase}
 use Rattle.phase_runs.specs.Units.{Past, newest_units, past_point}
@@ -134,7 +133,7 @@ past_number k past x parts n =
     }
 
 pub past_array :
-    (k : Block) (past : Past) (x : Spot) (b : Bounds) → k.call.surroundings.parts ≡ image_parts → IsArray k x b →
+    (k : Block) (past : Past) (x : Spot) (b : Grid) → k.call.surroundings.parts ≡ image_parts → IsArray k x b →
     IsArray (phase_at k past) x b
 past_array k past x b parts is =
     outer_array k (phase_at k past) x b (λ d known. past_known k past x d parts known) is
@@ -166,7 +165,7 @@ known_leaving k os x d n =
     }
 
 pub array_leaving :
-    (k : Block) (os : List Outer) (x : Spot) (b : Bounds) → IsArray (leaving k []) x b → IsArray (leaving k os) x b
+    (k : Block) (os : List Outer) (x : Spot) (b : Grid) → IsArray (leaving k []) x b → IsArray (leaving k os) x b
 array_leaving k os x b is =
     outer_array (leaving k []) (leaving k os) x b (λ d known. known_leaving k os x d known) is
 

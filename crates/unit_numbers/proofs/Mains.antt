@@ -36,7 +36,7 @@ use Rattle.expression_runs.specs.Variables.{IsNumber, Spot, variable_of}
 use Rattle.pli_headline.specs.Headline.{FitsMemory, parts}
 use Rattle.variable_runs.specs.Lists.{AreAllBegun, all_made, behind_made, layer_after, layer_behind}
 use Rattle.well_formed_trees.specs.WellFormed.{HasMain}
-use Rattle.element_runs.specs.Arrays.{IsArray}
+use Rattle.array_runs.specs.Arrays.{IsArray}
 use Rattle.scalar_runs.specs.Scalars.{IsScalar}
 use Rattle.number_runs.specs.Arrays.{is_array_if}
 use Rattle.number_runs.specs.Narrow.{is_narrow_if}

@@ -6,7 +6,6 @@ use Rattle.std.specs.Prelude.{nat_le}
 use Rattle.std.specs.List.{list_any}
 use Rattle.std.proofs.lemmas.Bool.{and_from, and_parts, leb-true}
 use Rattle.std.proofs.lemmas.Bool.Decides.{nat_tests}
-use Rattle.pli_typing.specs.Signatures.{Bounds}
 use Rattle.pli_typing.specs.TypedTree as Y
 use Rattle.pli_meaning.specs.DeclaredShapes.{declared_variable, variables_of_block}
 use Rattle.pli_meaning.specs.StorageState.{automatic_in_use, most_automatic}
@@ -25,8 +24,8 @@ use Rattle.program_runs.specs.Starts.{image_parts}
 use Rattle.program_runs.specs.Statements.{Block, IsAmong, IsBegun, Outer}
 use Rattle.program_runs.specs.Variables.{Declared}
 use Rattle.expression_runs.specs.Variables.{IsNumber, Spot, variable_of}
-use Rattle.element_runs.specs.Arrays.{IsArray}
-use Rattle.element_runs.proofs.Outer.{outer_array}
+use Rattle.array_runs.specs.Arrays.{Grid, IsArray}
+use Rattle.array_runs.proofs.Outer.{outer_array}
 use Rattle.variable_runs.specs.Lists.{AreAllBegun, all_made, behind_made, layer_behind}
 use Rattle.variable_runs.proofs.Lists.{all_begun}
 use Rattle.nested_calls.specs.Nested.{IsNested, parent_at}
@@ -308,7 +307,7 @@ pub outer_array_by :
     (i : Inner m part.caller v level number) (call : ℕ) →
     DontPass (block_of m h out os) i →
     IsBegun (bare_block m h v more
-    (entered_at i (block_of m h out os) call p numbers)) → (x : Spot) (s : Bounds) →
+    (entered_at i (block_of m h out os) call p numbers)) → (x : Spot) (s : Grid) →
     x.level ≤ level → IsArray (block_of m h out os) x s →
     IsArray (bare_block m h v more
     (entered_at i (block_of m h out os) call p numbers)) x s

@@ -3,7 +3,6 @@
 use Rattle.std.proofs.Common.{◌≡◌, ℕ, ◌+◌, ◌*◌, ◌^◌, ◌<◌, List, [], ◌∷◌, true, false, refl, sym}
 use Rattle.std.proofs.Common.{◌∙◌, arith}
 use Rattle.pli_language.specs.declared.condition.Condition.TheVariants as C
-use Rattle.pli_typing.specs.Signatures.{Bounds}
 use Rattle.pli_typing.specs.TypedTree as Y
 use Rattle.pli_meaning.specs.StorageState.{force}
 use Rattle.pli_serving.specs.ServiceState.{EditPlace}
@@ -18,7 +17,7 @@ use Rattle.expression_runs.specs.Raises.{Routines}
 use Rattle.expression_runs.specs.Variables.{IsNumber, Spot}
 use Rattle.expression_runs.proofs.Raises.{overflow_ends}
 use Rattle.operator_runs.proofs.Divisors.{zero_divide_ends}
-use Rattle.element_runs.specs.Arrays.{IsArray}
+use Rattle.array_runs.specs.Arrays.{Grid, IsArray}
 use Rattle.element_runs.proofs.Outside.{subscripts_end}
 use Rattle.text_runs.proofs.Errors.{error_ends}
 use Rattle.edit_runs.specs.Edits.{placing, within}
@@ -55,7 +54,7 @@ main_told {program} m input acts past b =
 
 -- an array of a block is one there
 pub array_placed :
-    (k : Block) (place : EditPlace) (x : Spot) (b : Bounds) → IsArray k x b → IsArray (placing place k) x b
+    (k : Block) (place : EditPlace) (x : Spot) (b : Grid) → IsArray k x b → IsArray (placing place k) x b
 array_placed k place x b is =
     let h = is.known in
     record {
@@ -73,7 +72,9 @@ array_placed k place x b is =
         low = h.low;
         inside = h.inside;
       };
+      type = is.type;
       bounds = is.bounds;
+      some = is.some;
     }
 
 -- a block in which what a scope lets expressions raise ends the run

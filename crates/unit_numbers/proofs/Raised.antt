@@ -32,7 +32,8 @@ use Rattle.program_runs.specs.Statements.{Block, IsBegun, Outer, as_outer}
 use Rattle.expression_runs.specs.Assignments.{setting_around}
 use Rattle.expression_runs.specs.Values.{Setting}
 use Rattle.expression_runs.specs.Variables.{Spot, variable_of}
-use Rattle.element_runs.proofs.Outer.{outer_array}
+use Rattle.array_runs.specs.Arrays.{IsArray}
+use Rattle.array_runs.proofs.Outer.{outer_array}
 use Rattle.block_headlines.proofs.Constants.{called_of_program}
 use Rattle.number_runs.specs.Arrays.{is_array_if}
 use Rattle.number_runs.specs.Narrow.{is_narrow_if}

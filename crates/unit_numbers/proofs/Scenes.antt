@@ -30,20 +30,21 @@ use Rattle.program_runs.specs.Calls.{left_over}
 use Rattle.program_runs.specs.Starts.{image_parts}
 use Rattle.program_runs.specs.Statements.{Block, EachDoes, IsBegun, Outer, outer_block, own_height, with_texts}
 use Rattle.expression_runs.specs.Variables.{IsNumber, Spot}
-use Rattle.element_runs.specs.Arrays.{IsArray}
+use Rattle.array_runs.specs.Arrays.{IsArray}
 use Rattle.scalar_runs.specs.Scalars.{IsScalar}
 use Rattle.condition_codes.specs.Codes.{HasCode}
 use Rattle.jump_runs.specs.Functions.{FunctionDoes, IsFunctionList}
 use Rattle.phase_runs.specs.Units.{IsListed}
 use Rattle.unit_runs.specs.Establishing.{OnUnit}
 use Rattle.unit_runs.specs.InnerLists.{ListDoes}
-use Rattle.counter_runs.proofs.Known.{array_told, number_told}
+use Rattle.counter_runs.proofs.Known.{number_told}
 use Rattle.counter_runs.proofs.Words.{begun_telling}
 use Rattle.argument_runs.specs.Lists.{with_list}
 use Rattle.block_headlines.specs.Constants.{IsOf}
 use Rattle.nested_calls.specs.Nested.{IsNested, parent_at}
 use Rattle.number_runs.specs.Knowledge.{Includes, IsHome}
 use Rattle.number_runs.specs.Numbers.{Scope, bounds_known, is_array_known, is_known, is_narrow_known, type_known}
+use Rattle.number_runs.proofs.Arrays.{array_told}
 use Rattle.number_runs.proofs.Narrow.{narrow_told}
 use Rattle.number_runs.specs.Statements.{are_statements, statements_need, statements_set}
 use Rattle.number_headlines.specs.Programs.{most_waiting}

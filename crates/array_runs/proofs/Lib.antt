@@ -1,0 +1,12 @@
+pub mod Simple
+pub mod Testing
+pub mod Counting
+pub mod ArrayCode
+pub mod ArrayMeaning
+pub mod ArrayPoints
+pub mod Evaluating
+pub mod Elements
+pub mod Asked
+pub mod ArrayAssigned
+pub mod Assignments
+pub mod Outer

@@ -1,0 +1,4 @@
+pub mod Arrays
+pub mod Subscripts
+pub mod Laws
+pub mod Outer
