@@ -22,8 +22,8 @@ use Rattle.program_places.proofs.Inner.{begin_placed}
 use Rattle.program_runs.specs.Starts.{image_parts}
 use Rattle.program_runs.specs.Statements.{Block, IsAmong, IsBegun, as_outer}
 use Rattle.expression_runs.specs.Variables.{IsNumber, Spot, number_declared, variable_of}
-use Rattle.element_runs.specs.Arrays.{IsArray}
-use Rattle.element_runs.proofs.Outer.{outer_array}
+use Rattle.array_runs.specs.Arrays.{IsArray}
+use Rattle.array_runs.proofs.Outer.{outer_array}
 use Rattle.scalar_runs.specs.Scalars.{IsScalar}
 use Rattle.variable_runs.specs.Known.{IsKnown}
 use Rattle.variable_runs.specs.Lists.{all_made, layer_after}
