@@ -39,7 +39,7 @@ use Rattle.area_runs.specs.Allocations.{HasArea, allocation}
 use Rattle.area_runs.specs.Based.{Ends}
 use Rattle.edit_runs.specs.Edits.{IsPut, KnowsFormats, placing, put_of, within}
 use Rattle.edit_runs.proofs.DataPuts.{put_does}
-use Rattle.edit_runs.proofs.Places.{begun_placed, errorless_placed}
+use Rattle.edit_runs.proofs.Places.{begun_placed, errorless_placed, number_placed}
 use Rattle.edit_headlines.proofs.Formats.{list_placed}
 use Rattle.area_assignments.specs.Copying.{IsCopying}
 use Rattle.area_assignments.proofs.Copying.{copy_does}
@@ -56,6 +56,7 @@ use Rattle.offset_runs.specs.OffsetPointers.{IsPointing, pointing}
 use Rattle.offset_runs.specs.Offsets.{Gives}
 use Rattle.offset_runs.proofs.Addresses.{address_gives}
 use Rattle.offset_runs.proofs.Comparisons.{offsets_test}
+use Rattle.offset_runs.proofs.LocatedReads.{number_does as by_offset}
 use Rattle.offset_runs.proofs.MemberAssignments.{keep_does}
 use Rattle.offset_runs.proofs.MemberOffsets.{member_gives}
 use Rattle.offset_runs.proofs.OffsetAssignments.{assign_does as offset_does}
@@ -69,7 +70,8 @@ use Rattle.offset_headlines.specs.Rows.{node_spot}
 use Rattle.offset_headlines.specs.Rows.{number_spot, of_area, offset_spot, pointer_spot, seen_turns, spare_spot}
 use Rattle.offset_headlines.specs.Rows.{twin_body, twin_entry}
 use Rattle.offset_headlines.specs.Rows.{twin_environment, twin_few, twin_formats, twin_main, twin_make, twin_program}
-use Rattle.offset_headlines.specs.Rows.{twin_put, twin_see, twin_some, twin_spot, twin_sum, twin_twice, value_member}
+use Rattle.offset_headlines.specs.Rows.{twin_new, twin_put, twin_see, twin_seen, twin_some, twin_spot, twin_sum}
+use Rattle.offset_headlines.specs.Rows.{twin_twice, value_member}
 use Rattle.offset_headlines.proofs.Placed.{StandsAt, allocate_index, allocate_linked, back_index, back_linked}
 use Rattle.offset_headlines.proofs.Placed.{before_index}
 use Rattle.offset_headlines.proofs.Placed.{before_linked, change_index, free_index, free_linked}
@@ -414,11 +416,12 @@ last_known input acts b =
     ((omega arith, omega arith), (omega arith, tt)) refl refl
 
 put_is :
-    (input : List ℕ) (acts line index : ℕ) → acts + 1 < 2 ^ 64 → IsBegun (twin_block input acts) → line < 2 ^ 31 →
-    KnowsFormats (twin_block input acts) (twin_formats line) → StandsAt index (coded (put_of (twin_put line))) →
-    size_of (coded (put_of (twin_put line))) + 100 ≤ length (linked_code twin_code) →
-    IsPut 0 (twin_block input acts) [] (twin_put line) index 0 100
-put_is input acts line index few b low known l paid =
+    (input : List ℕ) (acts line index : ℕ) (source : Y.Number) → acts + 1 < 2 ^ 64 → IsBegun (twin_block input acts)
+    → line < 2 ^ 31 →
+    KnowsFormats (twin_block input acts) (twin_formats line) → StandsAt index (coded (put_of (twin_put source line))) →
+    size_of (coded (put_of (twin_put source line))) + 100 ≤ length (linked_code twin_code) →
+    IsPut 0 (twin_block input acts) [] (twin_put source line) index 0 100
+put_is input acts line index source few b low known l paid =
     record {
       act = record { line_fits = low; acts = few };
       skip = tt;
@@ -494,8 +497,8 @@ see_does input acts few b =
           follow_linked (omega (arith, n)))
           (offset_gives input acts 18 b),
       (
-        put_does 0 k [] (twin_put 19) write_index left_over 0 100
-            (put_is input acts 19 write_index few b (omega arith) (formats_known input acts b) write_linked
+        put_does 0 k [] (twin_put twin_seen 19) write_index left_over 0 100
+            (put_is input acts 19 write_index twin_seen few b (omega arith) (formats_known input acts b) write_linked
             (omega (arith, n)))
             (((λ place. written_does input acts 19 place few b), tt), tt),
         (next_does input acts few b, tt),
@@ -548,6 +551,41 @@ change_does input acts few b =
     (omega (arith, n)))
     (constant_does (setting input acts 16) 0 (omega arith))
 
+back_does :
+    (input : List ℕ) (acts : ℕ) → acts + 1 < 2 ^ 64 → IsBegun (twin_block input acts) →
+    Does (twin_block input acts) [] (N.assignment number_spot twin_new 22) back_index left_over
+back_does input acts few b =
+    let k = twin_block input acts in
+    let n = linked_length (links_of twin_code) 0 twin_code in
+    number_does k [] number_spot twin_new 22 back_index left_over 0 100
+    (number_assigned input acts 22 back_index 0 twin_new few b (omega arith) (omega arith) back_linked
+    (omega (arith, n)))
+    (by_offset (setting input acts 22) (Y.OffsetIn (whole first_spot)) area_spot node_spot node_members node_leaves
+    value_member 0
+    (record {
+      declared = refl;
+      meant = refl;
+      plain = refl;
+      signature = 2;
+      table = refl;
+      number = omega arith;
+      numbered = refl;
+      area = has_area input acts;
+      ends = ends input acts 22 few;
+      none = refl;
+      words = omega arith;
+      waits = λ i. refl;
+    })
+    value_is (variable_gives (setting input acts 22) first_spot of_area b (first_is input acts b)))
+
+counted_does :
+    (input : List ℕ) (acts : ℕ) (place : EditPlace) → IsBegun (twin_block input acts) →
+    D.Does (within place (setting input acts 23)) 0 (Y.NumberIn (whole number_spot))
+counted_does input acts place b =
+    let k = twin_block input acts in
+    variable_does (within place (setting input acts 23)) number_spot (begun_placed k place b)
+    (number_placed k place number_spot (number_is input acts b))
+
 twin_each :
     (input : List ℕ) (acts : ℕ) → acts + 1 < 2 ^ 64 → IsBegun (twin_block input acts) →
     EachDoes (twin_block input acts) [] twin_body (body_index (main_of (twin_whole input acts))) left_over
@@ -584,16 +622,13 @@ twin_each input acts few b =
                     (
                       see_does input acts few b,
                       (
-                        point_does k [] pointer_spot (Y.OffsetIn (whole first_spot)) area_spot 22 back_index
-                            left_over 0 100
-                            (pointing_is input acts 22 back_index first_spot area_spot few b (has_area input acts)
-                            (omega arith) back_linked (omega (arith, n)))
-                            (variable_gives (setting input acts 22) first_spot of_area b (first_is input acts b)),
+                        back_does input acts few b,
                         (
-                          put_does 0 k [] (twin_put 23) last_index left_over 0 100
-                              (put_is input acts 23 last_index few b (omega arith) (last_known input acts b) last_linked
+                          put_does 0 k [] (twin_put (Y.NumberIn (whole number_spot)) 23) last_index left_over 0 100
+                              (put_is input acts 23 last_index (Y.NumberIn (whole number_spot)) few b (omega arith)
+                              (last_known input acts b) last_linked
                               (omega (arith, n)))
-                              (((λ place. written_does input acts 23 place few b), tt), tt),
+                              (((λ place. counted_does input acts place b), tt), tt),
                           tt,
                         ),
                       ),

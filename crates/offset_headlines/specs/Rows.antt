@@ -29,6 +29,7 @@ use Rattle.member_runs.specs.Members.{member_of, structure_declared}
 use Rattle.offset_runs.specs.OffsetAddresses.{offset_of}
 use Rattle.offset_runs.specs.OffsetAssignments as O
 use Rattle.offset_runs.specs.OffsetPointers.{pointing}
+use Rattle.offset_runs.specs.OffsetReferences.{member_by}
 use Rattle.offset_runs.specs.Offsets.{offset_declared}
 
 -- ---- the program, from its first line on
@@ -54,8 +55,8 @@ use Rattle.offset_runs.specs.Offsets.{offset_declared}
 --   PUT EDIT (P->V) (F(3));
 --   O = P->NX;
 -- END;
--- P = POINTER(F, A);
--- PUT EDIT (P->V) (F(3));
+-- X = F->V;
+-- PUT EDIT (X) (F(3));
 
 abbrev pub area_spot : Spot
 area_spot = record { block = 0; level = 0; index = 0 }
@@ -181,16 +182,19 @@ twin_some = Y.OffsetsCompared false (Y.OffsetIn (whole offset_spot)) Y.NullOffse
 abbrev pub twin_follow : Y.Stmt
 twin_follow = pointing pointer_spot (Y.OffsetIn (whole offset_spot)) twin_spot 18
 
--- what is read of the structure that the pointer points to
+-- what the pointer points to
+abbrev pub twin_seen : Y.Number
+twin_seen = Y.NumberIn (member_of pointer_spot node_spot value_member)
+
 abbrev pub twin_formats : (line : ℕ) → T.Formats
 twin_formats line = T.FormatThen (record { line = line; column = 20 }) 1 (T.FixedFormat 3) T.NoFormat
 
-abbrev pub twin_put : (line : ℕ) → Put
-twin_put line =
+abbrev pub twin_put : Y.Number → (line : ℕ) → Put
+twin_put source line =
     record {
       skip = None;
       first = record {
-        first = record { precision = 31; source = Y.NumberIn (member_of pointer_spot node_spot value_member) };
+        first = record { precision = 31; source = source };
         more = [];
         formats = twin_formats line;
       };
@@ -199,7 +203,7 @@ twin_put line =
     }
 
 abbrev pub twin_write : Y.Stmt
-twin_write = put_of (twin_put 19)
+twin_write = put_of (twin_put twin_seen 19)
 
 abbrev pub twin_next : Y.Stmt
 twin_next = O.assignment offset_spot (Y.OffsetIn (member_of pointer_spot node_spot next_member)) 20
@@ -216,11 +220,15 @@ seen_turns = Y.StmtThen [] twin_follow seen_2
 abbrev pub twin_see : Y.Stmt
 twin_see = Y.DoWhile twin_some seen_turns 17
 
+-- what the first offset names in the first area
+abbrev pub twin_new : Y.Number
+twin_new = Y.NumberIn (member_by (Y.OffsetIn (whole first_spot)) area_spot node_spot value_member)
+
 abbrev pub twin_back : Y.Stmt
-twin_back = pointing pointer_spot (Y.OffsetIn (whole first_spot)) area_spot 22
+twin_back = N.assignment number_spot twin_new 22
 
 abbrev pub twin_last : Y.Stmt
-twin_last = put_of (twin_put 23)
+twin_last = put_of (twin_put (Y.NumberIn (whole number_spot)) 23)
 
 abbrev pub twin_11 : Y.Stmts
 twin_11 = Y.StmtThen [] twin_last (Y.EndOfList [])
