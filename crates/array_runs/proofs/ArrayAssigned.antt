@@ -1,9 +1,8 @@
 -- The point behind an assignment to an element of an array: all that holds at the point before holds there.
-use Rattle.std.proofs.Common.{◌≡◌, ℕ, ◌+◌, ◌*◌, ◌^◌, ◌≤◌, List, [], length, Some, true, refl, sym, ap, ◌∙◌, subst, arith}
+use Rattle.std.proofs.Common.{◌≡◌, ℕ, ◌+◌, ◌*◌, ◌≤◌, List, [], length, Some, true, refl, ap, ◌∙◌, subst, arith}
 use Rattle.std.specs.Prelude.{ℤ}
 use Rattle.rv_meaning.specs.Machine.{memory_size, store_width}
 use Rattle.rv_meaning.specs.Memory.{store}
-use Rattle.pli_typing.specs.TypedTree as Y
 use Rattle.pli_meaning.specs.BasicValues.{BasicValue, VariableName}
 use Rattle.pli_meaning.specs.Contents.{Generation, element_place, is_within}
 use Rattle.pli_meaning.specs.Placing.{with_element}

@@ -1,12 +1,8 @@
 -- An assignment to an element: its act, its value, its subscripts, and the store; the act pays for all of it.
 use Rattle.std.proofs.Common.{◌≡◌, ℕ, ◌+◌, ◌*◌, ◌^◌, ◌<◌, ◌≤◌, List, [], ◌∷◌, ◌++◌, Bool, true, false, refl, sym, ap}
 use Rattle.std.proofs.Common.{◌∙◌, subst, arith}
-use Rattle.std.specs.Prelude.{ℤ, length, max, negsuc, pos, suc, if◌then◌else◌}
-use Rattle.std.proofs.lemmas.Int.{ints}
+use Rattle.std.specs.Prelude.{ℤ, length, max, pos, if◌then◌else◌}
 use Rattle.std.proofs.Math.Nat.{le-max_left, le-max_right}
-use Rattle.rv_meaning.specs.Machine.{store_width}
-use Rattle.rv_meaning.specs.Memory.{store}
-use Rattle.rv_meaning.specs.Words.{word}
 use Rattle.pli_typing.specs.Signatures.{Bit, Bounds, Fixed}
 use Rattle.pli_typing.specs.TypedTree as Y
 use Rattle.pli_meaning.specs.BasicValues.{BasicBit, BasicNumber, BasicOffset, BasicPointer, BasicText, BasicValue}
@@ -18,9 +14,7 @@ use Rattle.pli_meaning.specs.Executing as M
 use Rattle.pli_meaning.specs.Numbers.{checked, is_of_precision}
 use Rattle.pli_meaning.specs.Raising as R
 use Rattle.pli_meaning.specs.Raising.{at_line}
-use Rattle.pli_meaning.specs.StorageState.{State}
 use Rattle.pli_meaning.specs.World.{counted}
-use Rattle.pli_serving.specs.ServiceState.{Services}
 use Rattle.pli_coding.specs.Allocating.{act_code}
 use Rattle.pli_coding.specs.Assembly.{size_of}
 use Rattle.pli_coding.specs.Environments.{fetch, save, with_number}
@@ -43,10 +37,10 @@ use Rattle.run_steps.proofs.Owing.{comes_owing, done_owing, owing_closed}
 use Rattle.run_steps.specs.Reach.{Aims, Closed, Comes, Family, Reach, before, cost}
 use Rattle.run_steps.proofs.Reach.{before_closed, comes_on, onward, reach_map}
 use Rattle.run_steps.specs.Temporaries.{nothing}
-use Rattle.block_runs.specs.Machines.{AreIn, IsIn, acted}
+use Rattle.block_runs.specs.Machines.{IsIn, acted}
 use Rattle.block_runs.proofs.CallStatements.{comes_map}
 use Rattle.block_runs.proofs.PointActs.{act_comes}
-use Rattle.block_runs.proofs.PointGrounds.{StandsIn, in_known, point_frame, point_ground}
+use Rattle.block_runs.proofs.PointGrounds.{in_known, point_frame, point_ground}
 use Rattle.program_runs.specs.Statements.{Block, DoesWith, IsAmong, IsBegun, set_aside, size_with, statement_aims}
 use Rattle.program_runs.proofs.JumpsOut.{jumps_repaid, jumps_since}
 use Rattle.program_runs.proofs.Statements.{acted_among, goes_here, statement_closed}

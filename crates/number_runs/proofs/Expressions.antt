@@ -1,6 +1,6 @@
 -- Numbers, tests and texts of the class: each leaves what it means, by the law of its form.
 use Rattle.std.proofs.Common.{◌≡◌, ◌⊎◌, inl, inr, ℕ, ◌+◌, ◌*◌, ◌^◌, ◌≤◌, List, ◌∷◌, length, Option, Some, Bool, true, refl}
-use Rattle.std.proofs.Common.{sym, ap, ◌<◌, ◌∙◌, subst, arith, [], false}
+use Rattle.std.proofs.Common.{sym, ap, ◌<◌, ◌∙◌, subst, arith, []}
 use Rattle.std.specs.Prelude.{◌||◌, ◌&&◌, ◌==◌, ◌/◌, ◌%◌, cond, max, suc, nat_le, nat_lt}
 use Rattle.storage_relation.proofs.Holders.{eqb-other}
 use Rattle.storage_relation.proofs.Placing.{none_above}

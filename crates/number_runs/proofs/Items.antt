@@ -1,6 +1,6 @@
 -- Assignments to elements of any type.
-use Rattle.std.proofs.Common.{◌≡◌, ◌⊎◌, inl, inr, ℕ, ◌+◌, ◌<◌, ◌≤◌, List, [], true, false, refl, sym, subst, arith}
-use Rattle.std.specs.Prelude.{◌&&◌, Bool, max, suc}
+use Rattle.std.proofs.Common.{◌≡◌, ◌⊎◌, inl, inr, ℕ, ◌<◌, ◌≤◌, List, true, sym, subst, arith}
+use Rattle.std.specs.Prelude.{◌&&◌, max, suc}
 use Rattle.std.proofs.lemmas.Bool.{and_parts, cases_lt}
 use Rattle.pli_typing.specs.TypedTree as Y
 use Rattle.pli_coding.specs.Expressions.{given_in}

@@ -1,7 +1,7 @@
 -- PUT SKIP, and PUT EDIT of numbers and texts, do what they mean.
-use Rattle.std.proofs.Common.{◌≡◌, ℕ, ◌+◌, ◌≤◌, List, [], ◌∷◌, ◌++◌, true, refl, sym, ap, ◌∙◌, subst, arith, inl, None}
+use Rattle.std.proofs.Common.{◌≡◌, ℕ, ◌+◌, ◌≤◌, List, [], ◌∷◌, ◌++◌, true, refl, arith, inl, None}
 use Rattle.std.proofs.Common.{Some}
-use Rattle.std.specs.Prelude.{◌<◌, ◌&&◌, ◌||◌, Bool, false, max, nat_le, nat_lt, not, Option}
+use Rattle.std.specs.Prelude.{◌<◌, ◌&&◌, ◌||◌, Bool, false, nat_le, nat_lt, not, Option}
 use Rattle.std.proofs.lemmas.Bool.{and_parts, leb-true, ltb-true}
 use Rattle.pli_language.specs.Formats.{is_times}
 use Rattle.pli_language.specs.Tree as T
@@ -22,7 +22,6 @@ use Rattle.run_steps.proofs.Jumps.{back_of}
 use Rattle.program_runs.specs.Statements.{Block, DoesWith, HasAct, IsBegun, set_aside, size_with}
 use Rattle.condition_codes.specs.Codes.{HasCode}
 use Rattle.expression_runs.specs.Assignments.{setting_around}
-use Rattle.expression_runs.specs.Values.{Setting}
 use Rattle.expression_runs.specs.Variables.{IsNumber, Spot}
 use Rattle.expression_runs.proofs.Raises.{overflow_ends}
 use Rattle.array_runs.specs.Arrays.{Grid, IsArray}
@@ -30,7 +29,7 @@ use Rattle.element_runs.proofs.Outside.{subscripts_end}
 use Rattle.operator_runs.proofs.Divisors.{zero_divide_ends}
 use Rattle.text_runs.proofs.Errors.{error_ends}
 use Rattle.argument_runs.specs.Parameters.{IsParameter}
-use Rattle.edit_runs.specs.Edits.{IsSkipped, Item, placing, within}
+use Rattle.edit_runs.specs.Edits.{IsSkipped, placing, within}
 use Rattle.edit_runs.proofs.Items.{ArePut, Puts, setting_in}
 use Rattle.edit_runs.proofs.NumberItems.{number_goes}
 use Rattle.edit_runs.proofs.Places.{begun_placed, number_placed}
@@ -39,7 +38,7 @@ use Rattle.edit_runs.proofs.Skips.{skip_does}
 use Rattle.edit_runs.proofs.TextItems.{text_goes}
 use Rattle.text_values.proofs.Known.{constant_placed}
 use Rattle.number_runs.specs.Knowledge.{IsUnraised, KnowsConstants, KnowsLists, KnowsNumbers, KnowsPuts, MayBeSet}
-use Rattle.number_runs.specs.Numbers.{Scope, bounds_known, is_array_known, is_known, is_number, is_received}
+use Rattle.number_runs.specs.Numbers.{Scope, bounds_known, is_array_known, is_known, is_received}
 use Rattle.scalar_runs.specs.Scalars.{IsScalar}
 use Rattle.number_runs.specs.Numbers.{is_narrow_known, number_needs, type_known}
 use Rattle.number_runs.specs.Numbers.{is_precision, is_text, text_needs}

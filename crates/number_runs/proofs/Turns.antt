@@ -29,7 +29,7 @@ use Rattle.number_runs.proofs.Arrays.{array_told}
 use Rattle.number_runs.proofs.Narrow.{narrow_told}
 use Rattle.list_calls.proofs.ParametersPassed.{parameter_told}
 use Rattle.number_runs.proofs.Received.{passable_told, stored_untold}
-use Rattle.number_runs.proofs.Waiting.{waiting_without, waiting_unlocated}
+use Rattle.number_runs.proofs.Waiting.{waiting_unlocated}
 
 -- ---- words in which nothing waits
 

@@ -1,5 +1,5 @@
 -- What is known around expressions is known while texts wait.
-use Rattle.std.proofs.Common.{◌≡◌, ℕ, List, [], ◌++◌, true, false, sym, ap, ◌∙◌, subst}
+use Rattle.std.proofs.Common.{◌≡◌, List, [], ◌++◌, sym, ap, ◌∙◌, subst}
 use Rattle.std.proofs.lemmas.List.{append_assoc}
 use Rattle.pli_typing.specs.TypedTree as Y
 use Rattle.pli_serving.specs.ServiceState.{Entry}
