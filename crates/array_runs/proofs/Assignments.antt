@@ -7,7 +7,8 @@ use Rattle.pli_typing.specs.Signatures.{Bit, Bounds, Fixed}
 use Rattle.pli_typing.specs.TypedTree as Y
 use Rattle.pli_meaning.specs.BasicValues.{BasicBit, BasicNumber, BasicOffset, BasicPointer, BasicText, BasicValue}
 use Rattle.pli_meaning.specs.Contents.{element_place, is_within}
-use Rattle.pli_meaning.specs.Control.{Ended, Flow, Jump, Label, Meaning, Normal, Paused, Return, Stuck, act, flow_on, give}
+use Rattle.pli_meaning.specs.Control.{Ended, Flow, Jump, Label, Meaning, Normal, Paused, Return, Stuck, act, flow_on}
+use Rattle.pli_meaning.specs.Control.{give}
 use Rattle.pli_meaning.specs.Control.{◌>>=◌, ◌>>◌}
 use Rattle.pli_meaning.specs.Evaluating as V
 use Rattle.pli_meaning.specs.Executing as M
@@ -338,7 +339,8 @@ abbrev IsCoded : (words : ℕ) → Block → Spot → Y.Numbers → Y.Stored →
 IsCoded words k x xs source line =
     stmt_code k.environment (set_aside words) (assignment x xs source line)
     ≡ act_code line
-    ++ (stored_code k.environment (set_aside words) source ++ word_stored k.environment (set_aside words) (element x xs))
+    ++ (stored_code k.environment (set_aside words) source
+    ++ word_stored k.environment (set_aside words) (element x xs))
 
 assign_by :
     (words : ℕ) (k : Block) (labels : List Label) (x : Spot) (g : Grid) (s : Y.Number) (rest : Y.Numbers)

@@ -112,7 +112,8 @@ counted_is m [] [] is = omega arith
 counted_is m [] (z ∷ zs) is = absurd (cc is)
 counted_is m (b ∷ bs) [] is = absurd (cc is)
 counted_is m (b ∷ bs) (z ∷ zs) is =
-    counted_is (m * span b + place_at b z) bs zs (rest_within (int_le b.lower z) (int_le z b.upper) (is_within bs zs) is)
+    counted_is (m * span b + place_at b z) bs zs
+    (rest_within (int_le b.lower z) (int_le z b.upper) (is_within bs zs) is)
     ∙ regrouped m (span b) (place_at b z) (element_count bs) (element_place bs zs)
   where
     rest_within : (p q r : Bool) → p && (q && r) ≡ true → r ≡ true

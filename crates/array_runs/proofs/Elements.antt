@@ -83,8 +83,8 @@ pub placed_does :
     Comes k.block.call.code c f (services_of p) aims
     (V.variable_designated k.around (variable_of x) None whole_part zs k.block.call.surroundings.acts p.state)
 unfolding give
-placed_does k {p} {numbers} {index} {ys} {aims} x g is numeric outside begun closed jumps h o line beside xs zs taken c f
-    found l paid at next' =
+placed_does k {p} {numbers} {index} {ys} {aims} x g is numeric outside begun closed jumps h o line beside xs zs taken c
+    f found l paid at next' =
     let w = k.block.call.surroundings in
     let code = k.block.call.code in
     let v = services_of p in

@@ -121,7 +121,8 @@ all_simple :
     Comes k.block.call.code c f (services_of p) aims (V.numbers k.around xs k.block.call.surroundings.acts p.state)
 all_simple k {aims} bs xs need base t begun subs is p numbers taken c index j d f same room o ej ed there next' =
     let h = point_frame o.stands o.image in
-    let found = simple_found k p numbers h begun o index f there bs xs need base t taken (omega (arith, same)) room subs is in
+    let found = simple_found k p numbers h begun o index f there bs xs need base t taken (omega (arith, same)) room subs
+    is in
     subst (Comes k.block.call.code c f (services_of p) aims) (sym found.1)
     (record {
       to = λ early.

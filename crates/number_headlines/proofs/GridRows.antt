@@ -35,8 +35,10 @@ use Rattle.array_runs.specs.Laws.{bit_assigned}
 use Rattle.pli_headline.specs.Headline.{FitsMemory, parts}
 use Rattle.number_headlines.specs.Headlines.{IsNumberProgram}
 use Rattle.number_headlines.specs.GridRows.{column, column_spot, entry_at, entry_formats, entry_given, entry_sum}
-use Rattle.number_headlines.specs.GridRows.{first_flag, flag_given, flags_grid, flags_spot, less_than, more_than, one, row}
-use Rattle.number_headlines.specs.GridRows.{first_in, row_limit, row_spot, triangle_body, triangle_grid, triangle_head, triangle_main}
+use Rattle.number_headlines.specs.GridRows.{first_flag, flag_given, flags_grid, flags_spot, less_than, more_than, one}
+use Rattle.number_headlines.specs.GridRows.{row}
+use Rattle.number_headlines.specs.GridRows.{first_in, row_limit, row_spot, triangle_body, triangle_grid, triangle_head}
+use Rattle.number_headlines.specs.GridRows.{triangle_main}
 use Rattle.number_headlines.specs.GridRows.{triangle_program, triangle_spot, two}
 
 -- ---- it is well formed

@@ -1,5 +1,5 @@
--- A worked row: a program of the class with an array of two dimensions and of 15 bits, and one of bits, whose subscripts
--- are variables of 15 bits and of 31, sums and differences, and whose bounds are asked for.
+-- A worked row: a program of the class with an array of two dimensions and of 15 bits, and one of bits. Subscripts are
+-- variables of 15 bits and of 31, sums and differences, and bounds are asked for.
 use Rattle.std.specs.Prelude.{ℕ, ◌≡◌, List, [], ◌∷◌, None, pos, Some}
 use Rattle.pli_language.specs.declared.condition.Condition.TheVariants as C
 use Rattle.pli_language.specs.Tree as T

@@ -1,5 +1,6 @@
 -- Numbers, tests and texts of the class: each leaves what it means, by the law of its form.
-use Rattle.std.proofs.Common.{◌≡◌, ◌⊎◌, inl, inr, ℕ, ◌+◌, ◌*◌, ◌^◌, ◌≤◌, List, ◌∷◌, length, Option, Some, Bool, true, refl}
+use Rattle.std.proofs.Common.{◌≡◌, ◌⊎◌, inl, inr, ℕ, ◌+◌, ◌*◌, ◌^◌, ◌≤◌, List, ◌∷◌, length, Option, Some, Bool, true}
+use Rattle.std.proofs.Common.{refl}
 use Rattle.std.proofs.Common.{sym, ap, ◌<◌, ◌∙◌, subst, arith, []}
 use Rattle.std.specs.Prelude.{◌||◌, ◌&&◌, ◌==◌, ◌/◌, ◌%◌, cond, max, suc, nat_le, nat_lt}
 use Rattle.storage_relation.proofs.Holders.{eqb-other}
@@ -59,7 +60,8 @@ use Rattle.number_runs.specs.Numbers.{arguments_need, arguments_set, bounds_know
 use Rattle.number_runs.specs.Numbers.{is_argument, is_element, is_fixed, is_given, is_number, is_reference, is_test}
 use Rattle.number_runs.specs.Numbers.{is_variable, may_calculate, number_needs, number_sets, numbers_need}
 use Rattle.number_runs.specs.Numbers.{numbers_set, reference_needs, reference_sets, test_needs, test_sets, type_known}
-use Rattle.number_runs.specs.Numbers.{is_item, is_narrow_with, is_precision, is_text, subscripts_need, text_needs, without_given}
+use Rattle.number_runs.specs.Numbers.{is_item, is_narrow_with, is_precision, is_text, subscripts_need, text_needs}
+use Rattle.number_runs.specs.Numbers.{without_given}
 use Rattle.number_runs.specs.Numbers.{IsBare, is_known, is_passed, is_received, without_located}
 use Rattle.number_runs.specs.Narrow.{is_bit, is_number_type, is_text_type}
 use Rattle.number_runs.proofs.Arrays.{array_told, element_is, elements_known, lower_known, subscript_given, upper_known}
@@ -443,7 +445,8 @@ mutual
       HasLists h (number_sets x) → Does k (number_needs x) x
   number_does s k (Y.NumberConstant n) h is room = constant_does k n (ltb-true n (2 ^ 31) is)
   number_does s k (Y.NumberIn r) h is room =
-      named_does s k r h (or_cases (is_reference s r) (is_narrow_with s is_number_type r || is_item s is_number_type r) is)
+      named_does s k r h
+      (or_cases (is_reference s r) (is_narrow_with s is_number_type r || is_item s is_number_type r) is)
       (λ one. reference_does s k r h one room) (λ one. item_does s k r h one room)
   number_does s k (Y.NumberFrom c) h is room = call_does s k c h is room
   number_does s k (Y.Signed sign x) h is room =
@@ -591,7 +594,8 @@ mutual
       scalar_does s k r h (or_cases (is_variable s r) (is_given s r) is)
   reference_does s k (Y.Referring v Y.NotLocated part (Y.NumberThen first rest)) h is room =
       let need = subscripts_need (Y.NumberThen first rest) in
-      let a = and_parts (is_element s is_fixed v part (suc (given_in rest))) (is_number s first && are_numbers s rest) is in
+      let a = and_parts (is_element s is_fixed v part (suc (given_in rest)))
+      (is_number s first && are_numbers s rest) is in
       let b = and_parts (is_number s first) (are_numbers s rest) a.1 in
       element_number s k is_fixed v part (Y.NumberThen first rest) h a.0 (λ t passes. (31, fixed_is t passes))
       (first_then k 0 need first rest (subscript_given s k 0 need first h b.0 (omega arith)
@@ -607,7 +611,8 @@ mutual
       HasLists h (reference_sets r) → Does k (reference_needs r) (Y.NumberIn r)
   item_does s k (Y.Referring v Y.NotLocated part (Y.NumberThen first rest)) h is room =
       let need = subscripts_need (Y.NumberThen first rest) in
-      let a = and_parts (is_element s is_number_type v part (suc (given_in rest))) (is_number s first && are_numbers s rest) is in
+      let a = and_parts (is_element s is_number_type v part (suc (given_in rest)))
+      (is_number s first && are_numbers s rest) is in
       let b = and_parts (is_number s first) (are_numbers s rest) a.1 in
       element_number s k is_number_type v part (Y.NumberThen first rest) h a.0 number_type_is
       (first_then k 0 need first rest (subscript_given s k 0 need first h b.0 (omega arith)
@@ -621,7 +626,8 @@ mutual
       HasLists h (reference_sets r) → Tests k (reference_needs r) (Y.BitIn r)
   bit_item_tests s k (Y.Referring v Y.NotLocated part (Y.NumberThen first rest)) h is room =
       let need = subscripts_need (Y.NumberThen first rest) in
-      let a = and_parts (is_element s is_bit v part (suc (given_in rest))) (is_number s first && are_numbers s rest) is in
+      let a = and_parts (is_element s is_bit v part (suc (given_in rest)))
+      (is_number s first && are_numbers s rest) is in
       let b = and_parts (is_number s first) (are_numbers s rest) a.1 in
       element_bit s k v part (Y.NumberThen first rest) h a.0
       (first_then k 0 need first rest (subscript_given s k 0 need first h b.0 (omega arith)

@@ -30,7 +30,8 @@ use Rattle.number_runs.specs.Numbers.{is_asked, is_element, is_fixed, is_given, 
 use Rattle.number_runs.specs.Numbers.{is_variable, may_calculate, number_needs, number_sets}
 use Rattle.number_runs.specs.Numbers.{numbers_need, numbers_set, reference_needs, reference_sets, test_needs, test_sets}
 use Rattle.number_runs.specs.Narrow.{has_precision, is_bit, is_number_type, is_text_type}
-use Rattle.number_runs.specs.Numbers.{is_item, is_narrow_with, is_precision, is_text, subscripts_need, text_needs, without_given}
+use Rattle.number_runs.specs.Numbers.{is_item, is_narrow_with, is_precision, is_text, subscripts_need, text_needs}
+use Rattle.number_runs.specs.Numbers.{without_given}
 use Rattle.number_runs.specs.Numbers.{IsBare, without_located}
 use Rattle.number_runs.specs.Puts.{are_pairs, are_put_items, is_put, is_put_item, is_put_list, is_skip, are_shown}
 use Rattle.number_runs.specs.Puts.{is_list}
@@ -190,7 +191,8 @@ mutual
       Sets (number_needs x) (number_sets x) t (number_takes t x)
   number_taken s (Y.NumberConstant n) t h fits = sets_none t
   number_taken s (Y.NumberIn r) t h fits =
-      named_taken s r t (or_cases (is_reference s r) (is_narrow_with s is_number_type r || is_item s is_number_type r) h)
+      named_taken s r t
+      (or_cases (is_reference s r) (is_narrow_with s is_number_type r || is_item s is_number_type r) h)
       (λ one. reference_taken s r t one fits) (λ one. item_taken s is_number_type r t one fits)
   number_taken s (Y.NumberFrom c) t h fits = call_taken s c t h fits
   number_taken s (Y.Signed sign x) t h fits =

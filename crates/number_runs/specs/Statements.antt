@@ -23,7 +23,8 @@ abbrev pub is_stored : Scope → Y.Stored → Bool
 is_stored s (Y.StoredNumber precision x) = (precision == 31) && is_number s x
 is_stored s _ = false
 
--- a number on its way into a variable or an element of fewer bits, which is tested, a bit into a bit, or a text, which is cut
+-- a number on its way into a variable or an element of fewer bits, which is tested, a bit into a bit, or a text, which
+-- is cut
 abbrev pub is_narrowed : Scope → Y.Reference → Y.Stored → Bool
 is_narrowed s target (Y.StoredNumber precision x) =
     s.overflows
