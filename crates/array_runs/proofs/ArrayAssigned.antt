@@ -1,9 +1,8 @@
 -- The point behind an assignment to an element of an array: all that holds at the point before holds there.
-use Rattle.std.proofs.Common.{◌≡◌, ℕ, ◌+◌, ◌*◌, ◌^◌, ◌≤◌, List, [], length, Some, true, refl, sym, ap, ◌∙◌, subst, arith}
+use Rattle.std.proofs.Common.{◌≡◌, ℕ, ◌+◌, ◌*◌, ◌≤◌, List, [], length, Some, true, refl, ap, ◌∙◌, subst, arith}
 use Rattle.std.specs.Prelude.{ℤ}
 use Rattle.rv_meaning.specs.Machine.{memory_size, store_width}
 use Rattle.rv_meaning.specs.Memory.{store}
-use Rattle.pli_typing.specs.TypedTree as Y
 use Rattle.pli_meaning.specs.BasicValues.{BasicValue, VariableName}
 use Rattle.pli_meaning.specs.Contents.{Generation, element_place, is_within}
 use Rattle.pli_meaning.specs.Placing.{with_element}
@@ -52,7 +51,8 @@ pub services_same :
     (p : Point) {x : Spot} {g : Grid} (holds : N.Holds p.state x g) (zs : List ℤ) (v : BasicValue) →
     services_of (behind_assigned p holds zs v) ≡ services_of p
 services_same p {g = g} holds zs v =
-    same_services (state_behind p holds zs v) p (generation_world (VariableName holds.serial) (change_of p holds zs v) p.state)
+    same_services (state_behind p holds zs v) p
+    (generation_world (VariableName holds.serial) (change_of p holds zs v) p.state)
     (generation_input (VariableName holds.serial) (change_of p holds zs v) p.state)
     (assigned_served (now p []) (designated_element g holds.serial holds.values zs) v)
 
@@ -62,8 +62,8 @@ pub assigned_among :
 assigned_among {k} p holds zs v o =
     follows_among (state_behind p holds zs v)
     (generation_world (VariableName holds.serial) (change_of p holds zs v) p.state)
-    (generation_follows k.call.surroundings (VariableName holds.serial) (change_of p holds zs v) p (λ y. refl) (λ y. refl))
-    o
+    (generation_follows k.call.surroundings (VariableName holds.serial) (change_of p holds zs v) p (λ y. refl)
+    (λ y. refl)) o
 
 -- ---- memory
 

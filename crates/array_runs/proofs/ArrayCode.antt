@@ -104,7 +104,8 @@ element_is e t x g s rest initial is declared =
     let xs = Y.NumberThen s rest in
     let front = subscripts_code e t xs in
     ap (λ o. front ++ reached_from e t x xs o) declared
-    ∙ ap (λ q. front ++ (if q then directly e t x xs (leaf_by (Some (grid_declared g initial))) else other_way e t x xs))
+    ∙ ap (λ q. front
+    ++ (if q then directly e t x xs (leaf_by (Some (grid_declared g initial))) else other_way e t x xs))
     (constant_is g initial is)
     ∙ ap (λ c. front ++ (subscripts_counted e t 0 xs (map constant_bounds g.bounds)
     ++ (frame_found e x.level u3 ++ (c ++ add u3 (frame_in e x.level u3) u4 ∷ [])))) (stride_is g.type is)

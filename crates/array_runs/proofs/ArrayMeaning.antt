@@ -3,7 +3,7 @@ use Rattle.std.proofs.Common.{◌≡◌, ℕ, List, [], ◌∷◌, length, Some,
 use Rattle.std.proofs.lemmas.Bool.{eq-eqb}
 use Rattle.std.specs.Prelude.{ℤ, pos, cond, map, take, ◌&&◌}
 use Rattle.pli_language.specs.Tree as T
-use Rattle.pli_typing.specs.Signatures.{Bounds, Fixed, LeafKind, PlainClass}
+use Rattle.pli_typing.specs.Signatures.{Bounds, PlainClass}
 use Rattle.pli_typing.specs.TypedTree as Y
 use Rattle.pli_meaning.specs.BasicValues.{BasicBit, BasicNumber, BasicValue, VariableName}
 use Rattle.pli_meaning.specs.Contents.{Generation, Shape, bit_in, is_within, number_in, same_bounds, same_int}

@@ -1,7 +1,8 @@
 -- LBOUND, HBOUND and DIM of arrays: constants of the code.
-use Rattle.std.proofs.Common.{◌≡◌, ℕ, zero, suc, ◌+◌, ◌*◌, ◌-◌, ◌%◌, ◌^◌, ◌<◌, ◌≤◌, List, [], ◌∷◌, ◌++◌, Option, None}
+use Rattle.std.proofs.Common.{◌≡◌, ℕ, zero, suc, ◌+◌, ◌*◌, ◌-◌, ◌%◌, ◌^◌, ◌<◌, ◌≤◌, List, [], ◌∷◌, ◌++◌, Option}
 use Rattle.std.proofs.Common.{Some, Bool, true, refl, sym, ap, ◌∙◌, subst, arith}
-use Rattle.std.specs.Prelude.{ℤ, pos, negsuc, ◌-ℤ◌, ◌+ℤ◌, ◌&&◌, cond, int_le, map, not, slice_get, take, unwrap_or, if◌then◌else◌}
+use Rattle.std.specs.Prelude.{ℤ, pos, negsuc, ◌-ℤ◌, ◌+ℤ◌, cond, int_le, map, not, slice_get, take, unwrap_or}
+use Rattle.std.specs.Prelude.{if◌then◌else◌}
 use Rattle.std.proofs.Math.Nat.{mul-le-mul_left, mul-le-mul_right}
 use Rattle.std.proofs.lemmas.Int.{ints}
 use Rattle.std.proofs.lemmas.Bool.Decides.{nat_tests}
@@ -14,7 +15,7 @@ use Rattle.pli_typing.specs.TypedTree as Y
 use Rattle.pli_meaning.specs.BasicValues.{VariableName}
 use Rattle.pli_meaning.specs.Codes.{fixed_overflow_code}
 use Rattle.pli_meaning.specs.Contents.{is_within}
-use Rattle.pli_meaning.specs.Control.{Meaning, Normal, choose, flow_on, give, given, looked, stuck, ◌>>=◌, ◌>>◌}
+use Rattle.pli_meaning.specs.Control.{Normal, choose, flow_on, give, given, looked, stuck, ◌>>=◌, ◌>>◌}
 use Rattle.pli_meaning.specs.Evaluating as V
 use Rattle.pli_meaning.specs.Numbers.{Gives, Raises, checked, is_of_precision, wrapped}
 use Rattle.pli_meaning.specs.Raising as R
@@ -22,7 +23,7 @@ use Rattle.pli_meaning.specs.Raising.{Around}
 use Rattle.pli_meaning.specs.StorageState.{State}
 use Rattle.pli_coding.specs.Assembly.{Code, size_of}
 use Rattle.pli_coding.specs.Environments.{Environment, Taken, no_declaration}
-use Rattle.pli_coding.specs.Expressions.{BoundAsked, ElementsAsked, LowerAsked, UpperAsked, are_few, bound_code, no_bounds}
+use Rattle.pli_coding.specs.Expressions.{BoundAsked, ElementsAsked, LowerAsked, UpperAsked, bound_code, no_bounds}
 use Rattle.pli_coding.specs.Arithmetic.{count_checked}
 use Rattle.pli_coding.specs.Expressions.{asked_code, number_code}
 use Rattle.pli_coding.specs.Frames.{are_constant, has_constant_size}

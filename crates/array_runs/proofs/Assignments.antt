@@ -1,26 +1,21 @@
 -- An assignment to an element: its act, its value, its subscripts, and the store; the act pays for all of it.
 use Rattle.std.proofs.Common.{◌≡◌, ℕ, ◌+◌, ◌*◌, ◌^◌, ◌<◌, ◌≤◌, List, [], ◌∷◌, ◌++◌, Bool, true, false, refl, sym, ap}
 use Rattle.std.proofs.Common.{◌∙◌, subst, arith}
-use Rattle.std.specs.Prelude.{ℤ, length, max, negsuc, pos, suc, if◌then◌else◌}
-use Rattle.std.proofs.lemmas.Int.{ints}
+use Rattle.std.specs.Prelude.{ℤ, length, max, pos, if◌then◌else◌}
 use Rattle.std.proofs.Math.Nat.{le-max_left, le-max_right}
-use Rattle.rv_meaning.specs.Machine.{store_width}
-use Rattle.rv_meaning.specs.Memory.{store}
-use Rattle.rv_meaning.specs.Words.{word}
 use Rattle.pli_typing.specs.Signatures.{Bit, Bounds, Fixed}
 use Rattle.pli_typing.specs.TypedTree as Y
 use Rattle.pli_meaning.specs.BasicValues.{BasicBit, BasicNumber, BasicOffset, BasicPointer, BasicText, BasicValue}
 use Rattle.pli_meaning.specs.Contents.{element_place, is_within}
-use Rattle.pli_meaning.specs.Control.{Ended, Flow, Jump, Label, Meaning, Normal, Paused, Return, Stuck, act, flow_on, give}
+use Rattle.pli_meaning.specs.Control.{Ended, Flow, Jump, Label, Meaning, Normal, Paused, Return, Stuck, act, flow_on}
+use Rattle.pli_meaning.specs.Control.{give}
 use Rattle.pli_meaning.specs.Control.{◌>>=◌, ◌>>◌}
 use Rattle.pli_meaning.specs.Evaluating as V
 use Rattle.pli_meaning.specs.Executing as M
 use Rattle.pli_meaning.specs.Numbers.{checked, is_of_precision}
 use Rattle.pli_meaning.specs.Raising as R
 use Rattle.pli_meaning.specs.Raising.{at_line}
-use Rattle.pli_meaning.specs.StorageState.{State}
 use Rattle.pli_meaning.specs.World.{counted}
-use Rattle.pli_serving.specs.ServiceState.{Services}
 use Rattle.pli_coding.specs.Allocating.{act_code}
 use Rattle.pli_coding.specs.Assembly.{size_of}
 use Rattle.pli_coding.specs.Environments.{fetch, save, with_number}
@@ -43,10 +38,10 @@ use Rattle.run_steps.proofs.Owing.{comes_owing, done_owing, owing_closed}
 use Rattle.run_steps.specs.Reach.{Aims, Closed, Comes, Family, Reach, before, cost}
 use Rattle.run_steps.proofs.Reach.{before_closed, comes_on, onward, reach_map}
 use Rattle.run_steps.specs.Temporaries.{nothing}
-use Rattle.block_runs.specs.Machines.{AreIn, IsIn, acted}
+use Rattle.block_runs.specs.Machines.{IsIn, acted}
 use Rattle.block_runs.proofs.CallStatements.{comes_map}
 use Rattle.block_runs.proofs.PointActs.{act_comes}
-use Rattle.block_runs.proofs.PointGrounds.{StandsIn, in_known, point_frame, point_ground}
+use Rattle.block_runs.proofs.PointGrounds.{in_known, point_frame, point_ground}
 use Rattle.program_runs.specs.Statements.{Block, DoesWith, IsAmong, IsBegun, set_aside, size_with, statement_aims}
 use Rattle.program_runs.proofs.JumpsOut.{jumps_repaid, jumps_since}
 use Rattle.program_runs.proofs.Statements.{acted_among, goes_here, statement_closed}
@@ -344,7 +339,8 @@ abbrev IsCoded : (words : ℕ) → Block → Spot → Y.Numbers → Y.Stored →
 IsCoded words k x xs source line =
     stmt_code k.environment (set_aside words) (assignment x xs source line)
     ≡ act_code line
-    ++ (stored_code k.environment (set_aside words) source ++ word_stored k.environment (set_aside words) (element x xs))
+    ++ (stored_code k.environment (set_aside words) source
+    ++ word_stored k.environment (set_aside words) (element x xs))
 
 assign_by :
     (words : ℕ) (k : Block) (labels : List Label) (x : Spot) (g : Grid) (s : Y.Number) (rest : Y.Numbers)

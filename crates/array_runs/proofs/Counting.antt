@@ -1,13 +1,11 @@
 -- The code that counts the place of an element by its subscripts, row by row: each is tested on its way.
-use Rattle.std.proofs.Common.{◌≡◌, ℕ, ◌+◌, ◌*◌, ◌%◌, ◌^◌, ◌<◌, ◌≤◌, List, [], ◌∷◌, ◌++◌, Bool, true, false, refl, sym}
+use Rattle.std.proofs.Common.{◌≡◌, ℕ, ◌+◌, ◌*◌, ◌%◌, ◌^◌, ◌<◌, ◌≤◌, List, [], ◌∷◌, ◌++◌, Bool, true, false, refl}
 use Rattle.std.proofs.Common.{ap, ◌∙◌, subst, arith}
 use Rattle.std.specs.Prelude.{ℤ, pos, ◌-ℤ◌, ◌+ℤ◌, ◌&&◌, int_le, length, map, suc, zero, if◌then◌else◌}
 use Rattle.std.proofs.Math.Nat.{mul-le-mul_left, mul-le-mul_right, mul_assoc}
 use Rattle.std.proofs.lemmas.Int.{ints}
 use Rattle.std.proofs.lemmas.Bool.Decides.{nat_tests}
 use Rattle.rv_meaning.specs.declared.instr.Instr.{Instr}
-use Rattle.rv_meaning.specs.declared.instr.ImmediateOp.TheVariants as Imm
-use Rattle.rv_meaning.specs.declared.instr.RegisterOp.TheVariants as Op
 use Rattle.rv_meaning.specs.Machine.{written}
 use Rattle.rv_meaning.specs.Words.{sum, word}
 use Rattle.pli_typing.specs.Signatures.{Bounds, element_count, natural, span}
@@ -24,7 +22,7 @@ use Rattle.pli_coding.specs.Locating.{subscript_counted, subscript_given, subscr
 use Rattle.pli_coding.specs.Registers.{u1}
 use Rattle.activation_relation.specs.Layers.{Point, services_of}
 use Rattle.image_runs.specs.Runs.{Whole}
-use Rattle.run_steps.specs.Bodies.{Free, Ground, Known, with'}
+use Rattle.run_steps.specs.Bodies.{Ground, Known, with'}
 use Rattle.run_steps.proofs.Bodies.{set_known}
 use Rattle.run_steps.specs.Engine.{Base, address}
 use Rattle.run_steps.specs.Items.{At, Linked}
@@ -42,7 +40,7 @@ use Rattle.expression_runs.proofs.Saving.{fetched_reach, next_taken, register_le
 use Rattle.expression_runs.proofs.Words.{frame_of}
 use Rattle.element_runs.specs.Arrays.{IsBounds, constant_bounds}
 use Rattle.element_runs.specs.Subscripts.{SubscriptComes}
-use Rattle.element_runs.proofs.Bounds.{inside_span, is_between, place_at}
+use Rattle.element_runs.proofs.Bounds.{inside_span, place_at}
 use Rattle.element_runs.proofs.SubscriptTests.{Beside, Jumps, free_with}
 use Rattle.array_runs.specs.Arrays.{AreBounds}
 use Rattle.array_runs.proofs.Simple.{Apart, Brought}
@@ -114,7 +112,8 @@ counted_is m [] [] is = omega arith
 counted_is m [] (z ∷ zs) is = absurd (cc is)
 counted_is m (b ∷ bs) [] is = absurd (cc is)
 counted_is m (b ∷ bs) (z ∷ zs) is =
-    counted_is (m * span b + place_at b z) bs zs (rest_within (int_le b.lower z) (int_le z b.upper) (is_within bs zs) is)
+    counted_is (m * span b + place_at b z) bs zs
+    (rest_within (int_le b.lower z) (int_le z b.upper) (is_within bs zs) is)
     ∙ regrouped m (span b) (place_at b z) (element_count bs) (element_place bs zs)
   where
     rest_within : (p q r : Bool) → p && (q && r) ≡ true → r ≡ true

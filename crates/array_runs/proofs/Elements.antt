@@ -1,31 +1,28 @@
 -- An element of an array: its subscripts, their tests, and its address; and what is loaded from there.
-use Rattle.std.proofs.Common.{◌≡◌, ℕ, ◌+◌, ◌*◌, ◌^◌, ◌<◌, ◌≤◌, List, [], ◌∷◌, ◌++◌, Bool, true, refl, sym, ap, ◌∙◌}
+use Rattle.std.proofs.Common.{◌≡◌, ℕ, ◌+◌, ◌*◌, ◌<◌, ◌≤◌, List, [], ◌∷◌, ◌++◌, Bool, true, refl, sym, ap, ◌∙◌}
 use Rattle.std.proofs.Common.{subst, arith}
-use Rattle.std.specs.Prelude.{ℤ, pos, None, length, map, suc, take, ◌==◌}
-use Rattle.rv_meaning.specs.declared.instr.Instr.{Instr}
-use Rattle.rv_meaning.specs.Words.{flag, word}
-use Rattle.pli_typing.specs.Signatures.{Bit, Bounds, Fixed, element_count}
+use Rattle.std.specs.Prelude.{ℤ, pos, None, length, map, ◌==◌}
+use Rattle.pli_typing.specs.Signatures.{Bit, Bounds, Fixed}
 use Rattle.pli_typing.specs.TypedTree as Y
 use Rattle.pli_meaning.specs.BasicValues.{BasicBit, BasicNumber, BasicOffset, BasicPointer, BasicText, BasicValue}
 use Rattle.pli_meaning.specs.Contents.{element_place, is_within}
 use Rattle.pli_meaning.specs.Control.{Meaning, give}
 use Rattle.pli_meaning.specs.Evaluating as V
 use Rattle.pli_meaning.specs.Raising as R
-use Rattle.pli_meaning.specs.StorageState.{State}
-use Rattle.pli_coding.specs.Assembly.{Code, size_of}
-use Rattle.pli_coding.specs.Expressions.{bit_code, number_code, reference_code, subscripts_code}
+use Rattle.pli_coding.specs.Assembly.{size_of}
+use Rattle.pli_coding.specs.Expressions.{bit_code, number_code, subscripts_code}
 use Rattle.pli_coding.specs.Locating.{subscripts_counted}
 use Rattle.pli_coding.specs.Registers.{a0, u3}
 use Rattle.storage_relation.specs.Telling.{IsOf}
 use Rattle.activation_relation.specs.Layers.{Point, services_of}
-use Rattle.run_steps.specs.Bodies.{Free, Known, with'}
+use Rattle.run_steps.specs.Bodies.{Known, with'}
 use Rattle.run_steps.proofs.Bodies.{narrow_load_from}
 use Rattle.run_steps.specs.Engine.{Base, address}
 use Rattle.run_steps.specs.Items.{At, Linked}
-use Rattle.run_steps.proofs.Jumps.{back_of, front_of, linked_at}
+use Rattle.run_steps.proofs.Jumps.{back_of, front_of}
 use Rattle.run_steps.proofs.Linking.{size_append}
 use Rattle.run_steps.specs.Numbers.{IsWide}
-use Rattle.run_steps.specs.Reach.{Aims, Closed, Comes, Family, Reach, before, cost}
+use Rattle.run_steps.specs.Reach.{Aims, Closed, Comes, Family, before, cost}
 use Rattle.run_steps.proofs.Reach.{before_closed, comes_on, onward, reach_map, reach_with}
 use Rattle.run_steps.specs.Temporaries.{nothing}
 use Rattle.block_runs.specs.Machines.{AreIn, IsIn}
@@ -45,14 +42,14 @@ use Rattle.element_runs.specs.Subscripts.{SubscriptComes}
 use Rattle.element_runs.proofs.Addresses.{found_code, found_reach}
 use Rattle.element_runs.proofs.SubscriptTests.{Beside, Jumps, nothing_beside}
 use Rattle.scalar_runs.proofs.ScalarWords.{kind_for, word_in}
-use Rattle.array_runs.specs.Arrays.{AreBounds, Grid, IsArray, element}
+use Rattle.array_runs.specs.Arrays.{Grid, IsArray, element}
 use Rattle.array_runs.specs.Subscripts.{AreSubscripts}
 use Rattle.array_runs.proofs.ArrayCode.{element_code, element_is, loads, number_loaded, bit_loaded, place_code}
 use Rattle.array_runs.proofs.ArrayMeaning as N
 use Rattle.array_runs.proofs.ArrayMeaning.{designated_element, designated_is, element_meant}
 use Rattle.array_runs.proofs.ArrayPoints.{ElementAt, array_at, element_at, few_elements, frame_small, held_at, place_is}
-use Rattle.array_runs.proofs.Counting.{AreFound, Tested, count_any}
-use Rattle.array_runs.proofs.Evaluating.{Goes, evaluates, found_many}
+use Rattle.array_runs.proofs.Counting.{AreFound, count_any}
+use Rattle.array_runs.proofs.Evaluating.{evaluates, found_many}
 
 -- ---- behind the subscripts
 
@@ -86,8 +83,8 @@ pub placed_does :
     Comes k.block.call.code c f (services_of p) aims
     (V.variable_designated k.around (variable_of x) None whole_part zs k.block.call.surroundings.acts p.state)
 unfolding give
-placed_does k {p} {numbers} {index} {ys} {aims} x g is numeric outside begun closed jumps h o line beside xs zs taken c f
-    found l paid at next' =
+placed_does k {p} {numbers} {index} {ys} {aims} x g is numeric outside begun closed jumps h o line beside xs zs taken c
+    f found l paid at next' =
     let w = k.block.call.surroundings in
     let code = k.block.call.code in
     let v = services_of p in

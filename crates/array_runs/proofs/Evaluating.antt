@@ -1,7 +1,7 @@
 -- Subscripts come in their order: each waits in a register, up to where all that are left come by themselves.
-use Rattle.std.proofs.Common.{◌≡◌, ℕ, ◌+◌, ◌*◌, ◌<◌, ◌≤◌, List, [], ◌∷◌, ◌++◌, length, Bool, true, false, refl, sym}
+use Rattle.std.proofs.Common.{◌≡◌, ℕ, ◌+◌, ◌<◌, ◌≤◌, List, [], ◌∷◌, ◌++◌, length, Bool, true, false, refl, sym}
 use Rattle.std.proofs.Common.{ap, ◌∙◌, subst, arith}
-use Rattle.std.specs.Prelude.{ℤ, ◌&&◌, max, take, if◌then◌else◌}
+use Rattle.std.specs.Prelude.{ℤ, ◌&&◌, take, if◌then◌else◌}
 use Rattle.std.proofs.lemmas.Bool.{and_parts}
 use Rattle.std.proofs.Math.Nat.{le-max_left, le-max_right}
 use Rattle.rv_meaning.specs.Words.{word}
@@ -15,14 +15,13 @@ use Rattle.pli_coding.specs.Expressions.{number_code, subscripts_code}
 use Rattle.pli_coding.specs.Locating.{are_simple, is_simple}
 use Rattle.pli_coding.specs.Registers.{a0}
 use Rattle.activation_relation.specs.Layers.{Point, services_of}
-use Rattle.run_steps.specs.Engine.{Base, address}
 use Rattle.run_steps.specs.Items.{Linked}
-use Rattle.run_steps.proofs.Jumps.{back_of, front_of, linked_at}
+use Rattle.run_steps.proofs.Jumps.{back_of, front_of}
 use Rattle.run_steps.proofs.Linking.{size_append}
 use Rattle.run_steps.proofs.Numbers.{word_small}
 use Rattle.run_steps.specs.Reach.{Aims, Closed, Comes, Family, before, cost}
 use Rattle.run_steps.proofs.Reach.{before_closed, comes_on, onward}
-use Rattle.block_runs.specs.Machines.{AreIn, IsIn}
+use Rattle.block_runs.specs.Machines.{AreIn}
 use Rattle.block_runs.proofs.CallStatements.{comes_map}
 use Rattle.block_runs.proofs.PointGrounds.{in_known, point_frame}
 use Rattle.program_runs.specs.Statements.{IsAmong, IsBegun}
@@ -122,7 +121,8 @@ all_simple :
     Comes k.block.call.code c f (services_of p) aims (V.numbers k.around xs k.block.call.surroundings.acts p.state)
 all_simple k {aims} bs xs need base t begun subs is p numbers taken c index j d f same room o ej ed there next' =
     let h = point_frame o.stands o.image in
-    let found = simple_found k p numbers h begun o index f there bs xs need base t taken (omega (arith, same)) room subs is in
+    let found = simple_found k p numbers h begun o index f there bs xs need base t taken (omega (arith, same)) room subs
+    is in
     subst (Comes k.block.call.code c f (services_of p) aims) (sym found.1)
     (record {
       to = λ early.
@@ -195,38 +195,37 @@ waits_first k b bs s rest need base t false is again aims begun closed subs p nu
     let held = held_after o1.numbers taken (word z) in
     let among = held_among k taken 1 (word z) one (omega arith) small' o1.among in
     let more : List ℤ → Meaning (List ℤ) = λ zs. give (z ∷ zs) in
-          subst (λ u. Comes code c1 f1 v1 aims (next z w.acts u)) (sym o1.state)
-          (onward closed o1.reach
-          (λ g1 at1.
-          onward closed
-          (saved_reach k taken 0 h1 one (c + size_of part) g1 (word z) small' (front_of put' last l1)
-          (λ b'. known_word k.block h1 (at1 b')))
-          (λ g2 at2.
-          subst (Comes code c2 g2 (services_of p1) aims) (sym (rest_meant k.around z rest w.acts p1.state))
-          (comes_on w.acts (V.numbers k.around rest w.acts p1.state) more
-          (again (before code aims w.acts more) begun
-          (before_closed w.acts more closed) subs.1 p1 held (taken + 1) c2 i2 g2 (omega (arith, same)) room
-          (jumps.0, λ c' f' v' height label s' q. jumps.1 c' f' v' height label s' (jumps_since since q)) among
-          (o1.line ∙ line) l2 (omega (arith, paid, n0, n1, n2, n3)) (λ b'. in_known h1 among.image.parts (at2 b'))
-          (λ q after h zs among2 since2 line2 stays found f' in'.
-          subst (Comes code (c2 + size_of last') f' (services_of q) aims)
-          (sym (given_meant z zs w.acts q.state))
-          (record {
-            to = λ early'.
-                subst (λ n. aims.done n f' (services_of q) (z ∷ zs) q.state) (omega (arith, n0, n1, n2, n3))
-                (next' q after h (z ∷ zs) among2 (omega (arith, since, since2)) (line2 ∙ o1.line)
-                (λ n less. stays n (omega (arith, less)) ∙ held_stays o1.numbers taken (word z) n less
-                ∙ o1.stays n less)
-                (
-                  subst (λ j. IsFound j k q after h taken s z) (sym is) (record {
-                    wide = q1.0;
-                    waits = stays taken (omega arith) ∙ held_is_given o1.numbers taken (word z);
-                  }),
-                  one,
-                  found,
-                ) f'
-                (subst (λ j. AreIn w q after j f') (omega (arith, n0, n1, n2, n3)) in'));
-          }))))))))
+    subst (λ u. Comes code c1 f1 v1 aims (next z w.acts u)) (sym o1.state)
+    (onward closed o1.reach
+    (λ g1 at1.
+    onward closed
+    (saved_reach k taken 0 h1 one (c + size_of part) g1 (word z) small' (front_of put' last l1)
+    (λ b'. known_word k.block h1 (at1 b')))
+    (λ g2 at2.
+    subst (Comes code c2 g2 (services_of p1) aims) (sym (rest_meant k.around z rest w.acts p1.state))
+    (comes_on w.acts (V.numbers k.around rest w.acts p1.state) more
+    (again (before code aims w.acts more) begun
+    (before_closed w.acts more closed) subs.1 p1 held (taken + 1) c2 i2 g2 (omega (arith, same)) room
+    (jumps.0, λ c' f' v' height label s' q. jumps.1 c' f' v' height label s' (jumps_since since q)) among
+    (o1.line ∙ line) l2 (omega (arith, paid, n0, n1, n2, n3)) (λ b'. in_known h1 among.image.parts (at2 b'))
+    (λ q after h zs among2 since2 line2 stays found f' in'.
+    subst (Comes code (c2 + size_of last') f' (services_of q) aims)
+    (sym (given_meant z zs w.acts q.state))
+    (record {
+      to = λ early'.
+          subst (λ n. aims.done n f' (services_of q) (z ∷ zs) q.state) (omega (arith, n0, n1, n2, n3))
+          (next' q after h (z ∷ zs) among2 (omega (arith, since, since2)) (line2 ∙ o1.line)
+          (λ n less. stays n (omega (arith, less)) ∙ held_stays o1.numbers taken (word z) n less
+          ∙ o1.stays n less) (
+            subst (λ j. IsFound j k q after h taken s z) (sym is) (record {
+              wide = q1.0;
+              waits = stays taken (omega arith) ∙ held_is_given o1.numbers taken (word z);
+            }),
+            one,
+            found,
+          ) f'
+          (subst (λ j. AreIn w q after j f') (omega (arith, n0, n1, n2, n3)) in'));
+    }))))))))
     (λ c1 f1 v1 height label s1 q1. jumps.1 c1 f1 v1 height label s1 q1)
     (λ c1 f1 v1 r s1 q1. absurd q1)
     (subs.0.does p numbers taken c index f o line (first_left k base t taken need s same subs.0 room)

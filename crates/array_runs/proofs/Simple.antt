@@ -1,6 +1,6 @@
 -- Simple subscripts: a constant, or a FIXED BINARY variable of the block of any precision, comes into u1, and no other
 -- register changes.
-use Rattle.std.proofs.Common.{◌≡◌, ℕ, ◌+◌, ◌^◌, ◌<◌, ◌≤◌, ◌⊎◌, inl, inr, List, [], ◌++◌, Option, Some, true, refl, sym}
+use Rattle.std.proofs.Common.{◌≡◌, ℕ, ◌+◌, ◌^◌, ◌<◌, ◌≤◌, inl, inr, List, [], ◌++◌, Option, Some, true, refl, sym}
 use Rattle.std.proofs.Common.{ap, ◌∙◌, subst, arith}
 use Rattle.std.proofs.lemmas.Bool.Decides.{nat_tests}
 use Rattle.std.specs.Prelude.{ℤ, pos, ◌==◌, slice_get, unwrap_or}
@@ -37,7 +37,7 @@ use Rattle.block_runs.specs.Machines.{AreIn}
 use Rattle.block_runs.proofs.PointGrounds.{point_ground}
 use Rattle.program_runs.specs.Statements.{IsAmong, IsBegun}
 use Rattle.expression_runs.specs.Values.{Setting}
-use Rattle.expression_runs.specs.Variables.{IsNumber, Spot, number_declared, number_place, variable_of, whole}
+use Rattle.expression_runs.specs.Variables.{IsNumber, Spot, number_place, variable_of, whole}
 use Rattle.expression_runs.proofs.VariableMeaning.{number_is}
 use Rattle.expression_runs.proofs.VariablePoints as P
 use Rattle.expression_runs.proofs.VariablePoints.{first_base, number_at, reaches_by}
@@ -45,7 +45,7 @@ use Rattle.expression_runs.proofs.Words.{frame_of}
 use Rattle.pli_headline.proofs.Scalars.{fewer_bits, load_kind}
 use Rattle.scalar_runs.specs.Scalars.{IsFixed, scalar_declared}
 use Rattle.scalar_runs.proofs.ScalarMeaning as S
-use Rattle.scalar_runs.proofs.ScalarPoints.{ScalarAt, at_of, place_at, room_at, scalar_at}
+use Rattle.scalar_runs.proofs.ScalarPoints.{at_of, place_at, room_at, scalar_at}
 use Rattle.scalar_runs.proofs.ScalarWords.{word_in}
 use Rattle.array_runs.specs.Subscripts.{IsSimple}
 
@@ -195,9 +195,11 @@ pub brought_simple :
     (k : Setting) (s : Y.Number) → IsSimple k.block s → IsBegun k.block → (p : Point)
     (numbers : ℕ → ℕ) (h : frame_of k.block p) → IsAmong k.block numbers p → (index : ℕ) (f : Family) →
     AreIn k.block.call.surroundings p numbers index f → (z : ℤ) × Brought k s p numbers h z
-brought_simple k s (inl is) begun p numbers h o index f there =
-    (pos is.value, subst (λ u. Brought k u p numbers h (pos is.value)) (sym is.is)
-    (brought_constant k is.value is.few p numbers h))
+brought_simple k s (inl is) begun p numbers h o index f there = (
+  pos is.value,
+  subst (λ u. Brought k u p numbers h (pos is.value)) (sym is.is)
+      (brought_constant k is.value is.few p numbers h),
+)
 brought_simple k s (inr (inl is)) begun p numbers h o index f there =
     let b = brought_variable k is.spot is.number begun p numbers h o index f there in
     (b.0, subst (λ u. Brought k u p numbers h b.0) (sym is.is) b.1)

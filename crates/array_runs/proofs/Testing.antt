@@ -199,7 +199,8 @@ tested_does k {p} {numbers} {i} {ys} {aims} outside closed jumps h o line apart 
     by true e f2 l' at2 =
         onward closed (skip_taken d f2 Test.GreaterOrEqualUnsigned u2 u1 (error_raised subscript_code) l' at2
         (tests true e f2 at2)) (λ f3 at3.
-        subst (λ n. Comes code n f3 v aims (R.demanded k.around 102 more k.block.call.surroundings.acts p.state)) (omega arith)
+        subst (λ n. Comes code n f3 v aims (R.demanded k.around 102 more k.block.call.surroundings.acts p.state))
+        (omega arith)
         (next' e f3 (λ b'. record {
           pc = (at3 b').pc ∙ ap (address b') (omega arith);
           holds = record {

@@ -35,8 +35,10 @@ use Rattle.array_runs.specs.Laws.{bit_assigned}
 use Rattle.pli_headline.specs.Headline.{FitsMemory, parts}
 use Rattle.number_headlines.specs.Headlines.{IsNumberProgram}
 use Rattle.number_headlines.specs.GridRows.{column, column_spot, entry_at, entry_formats, entry_given, entry_sum}
-use Rattle.number_headlines.specs.GridRows.{first_flag, flag_given, flags_grid, flags_spot, less_than, more_than, one, row}
-use Rattle.number_headlines.specs.GridRows.{row_spot, triangle_body, triangle_grid, triangle_head, triangle_main}
+use Rattle.number_headlines.specs.GridRows.{first_flag, flag_given, flags_grid, flags_spot, less_than, more_than, one}
+use Rattle.number_headlines.specs.GridRows.{row}
+use Rattle.number_headlines.specs.GridRows.{first_in, row_limit, row_spot, triangle_body, triangle_grid, triangle_head}
+use Rattle.number_headlines.specs.GridRows.{triangle_main}
 use Rattle.number_headlines.specs.GridRows.{triangle_program, triangle_spot, two}
 
 -- ---- it is well formed
@@ -164,6 +166,41 @@ entry_sum_sound = (
   entry_sound (less_than row) (less_than column) (row_sound, omega arith) (column_sound, omega arith),
 )
 
+-- bounds
+
+abbrev triangle_is : Designates here (whole triangle_spot)
+triangle_is = record {
+  d = grid_declared triangle_grid [];
+  declared = record { found = refl; same_class = refl; block_around = inl (refl, refl) };
+  dimensions = 2;
+  member = record { place = 0; dimensions_are = refl; part_is = refl; some = omega arith; within = omega arith };
+  subscripted = inl refl;
+}
+
+first_sound : SoundNumber here (first_in 1)
+first_sound = (
+  record { designates = triangle_is; none = refl; low = omega arith; high = omega arith },
+  (triangle_is, (tt, (tt, tt))),
+)
+
+second_sound : SoundNumber here (first_in 2)
+second_sound = (
+  record { designates = triangle_is; none = refl; low = omega arith; high = omega arith },
+  (triangle_is, (tt, (tt, tt))),
+)
+
+row_limit_sound : SoundNumber here row_limit
+row_limit_sound = (
+  (
+    record { designates = triangle_is; none = refl; low = omega arith; high = omega arith },
+    (triangle_is, (tt, (tt, tt))),
+  ),
+  (
+    record { designates = triangle_is; none = refl; low = omega arith; high = omega arith },
+    (triangle_is, (tt, (tt, tt))),
+  ),
+)
+
 -- statements
 
 row_given_sound :
@@ -200,13 +237,12 @@ main_sound = record {
   held = refl;
   listed = refl;
   statements = (
-    given_sound (Y.NumberConstant 0) (Y.NumberConstant 0) (Y.NumberConstant 1) 3 (omega arith) (omega arith)
-        (omega arith) (omega arith),
+    given_sound (first_in 1) (first_in 2) (Y.NumberConstant 1) 3 first_sound second_sound (omega arith) (omega arith),
     (
       row_given_sound (Y.NumberConstant 0) 3 (omega arith) (omega arith),
       (
         (
-          (row_sound, omega arith),
+          (row_sound, row_limit_sound),
           (
             (
               row_given_sound (more_than row) 5 (row_sound, omega arith) (omega arith),

@@ -391,9 +391,10 @@ array_ruled : (g : Grid) (initial : List T.InitialItem) → IsGrid g initial →
 array_ruled g initial is =
     let held = element_held g.type is.type in
     let few = is.few in
-    subst (λ u. IsSignature u × AreLeaves u.leaves) (sym (array_signed g.type held g.bounds initial))
-    (array_kept g.type held g.bounds (bounds_held g.bounds is.bounds) (omega (arith, few)),
-    (pairs_small g.bounds is.bounds, tt))
+    subst (λ u. IsSignature u × AreLeaves u.leaves) (sym (array_signed g.type held g.bounds initial)) (
+      array_kept g.type held g.bounds (bounds_held g.bounds is.bounds) (omega (arith, few)),
+      (pairs_small g.bounds is.bounds, tt),
+    )
 
 text_ruled :
     (varying : Bool) (n : ℕ) → 0 < n → n ≤ most_text → IsRuled (scalar_declared (text_leaf varying n) [])

@@ -1,5 +1,5 @@
--- A worked row: a program of the class with an array of two dimensions and of 15 bits, and one of bits, whose subscripts
--- are variables of 15 bits and of 31, sums and differences.
+-- A worked row: a program of the class with an array of two dimensions and of 15 bits, and one of bits. Subscripts are
+-- variables of 15 bits and of 31, sums and differences, and bounds are asked for.
 use Rattle.std.specs.Prelude.{ℕ, ◌≡◌, List, [], ◌∷◌, None, pos, Some}
 use Rattle.pli_language.specs.declared.condition.Condition.TheVariants as C
 use Rattle.pli_language.specs.Tree as T
@@ -17,8 +17,8 @@ use Rattle.array_runs.specs.Laws.{bit_assigned, number_assigned}
 use Rattle.pli_headline.specs.Headline.{Headline, parts}
 
 -- DECLARE T(0:3, 0:3) FIXED BINARY(15), B(3) BIT(1), I FIXED BINARY(15), J FIXED BINARY(31);
--- T(0, 0) = 1; I = 0;
--- DO WHILE (I < 9); I = I + 1; T(I, 0) = 1; J = 0;
+-- T(LBOUND(T, 1), LBOUND(T, 2)) = 1; I = 0;
+-- DO WHILE (I < DIM(T, 1) + HBOUND(T, 2)); I = I + 1; T(I, 0) = 1; J = 0;
 -- DO WHILE (J < I); J = J + 1; T(I, J) = T(I - 1, J) + T(I - 1, J - 1); PUT EDIT (T(I, J)) (F(3)); B(J) = T(I, J) > 2;
 -- END; IF B(1) THEN T(I, J + 1) = 1; END;
 
@@ -105,12 +105,18 @@ row_turns =
     (Y.StmtThen [] (assignment column_spot (Y.NumberConstant 0) 6)
     (Y.StmtThen [] column_loop (Y.StmtThen [] last_choice (Y.EndOfList [])))))
 
+abbrev pub row_limit : Y.Number
+row_limit = Y.Calculated Y.Sum (Y.ElementsOf (whole triangle_spot) 1) (Y.UpperBound (whole triangle_spot) 2)
+
 abbrev pub row_loop : Y.Stmt
-row_loop = Y.DoWhile (Y.NumbersCompared Y.IsLess row (Y.NumberConstant 9)) row_turns 4
+row_loop = Y.DoWhile (Y.NumbersCompared Y.IsLess row row_limit) row_turns 4
+
+abbrev pub first_in : (dimension : ℕ) → Y.Number
+first_in dimension = Y.LowerBound (whole triangle_spot) dimension
 
 abbrev pub triangle_body : Y.Stmts
 triangle_body =
-    Y.StmtThen [] (entry_given (Y.NumberConstant 0) (Y.NumberConstant 0) (Y.NumberConstant 1) 3)
+    Y.StmtThen [] (entry_given (first_in 1) (first_in 2) (Y.NumberConstant 1) 3)
     (Y.StmtThen [] (number_assignment row_spot 15 (Y.NumberConstant 0) 3)
     (Y.StmtThen [] row_loop (Y.EndOfList [])))
 

@@ -1,5 +1,6 @@
 -- Arrays that the class admits: what is declared, references to elements, and their subscripts.
-use Rattle.std.proofs.Common.{◌≡◌, ◌⊎◌, inl, inr, ℕ, zero, suc, ◌+◌, ◌^◌, ◌<◌, ◌≤◌, List, [], ◌∷◌, length, Option, None, Some}
+use Rattle.std.proofs.Common.{◌≡◌, ◌⊎◌, inl, inr, ℕ, zero, suc, ◌+◌, ◌^◌, ◌<◌, ◌≤◌, List, [], ◌∷◌, length, Option, None}
+use Rattle.std.proofs.Common.{Some}
 use Rattle.std.proofs.Common.{Bool, false, true, refl, sym, ap, ◌∙◌, subst, arith}
 use Rattle.std.specs.Prelude.{◌&&◌, ◌||◌, ◌==◌, int_le, map, max, nat_le, nat_lt}
 use Rattle.std.proofs.lemmas.Bool.{and_parts, eqb-true, leb-true, ltb-true, or_cases}
@@ -25,12 +26,14 @@ use Rattle.array_runs.specs.Subscripts.{IsSimple, IsSubscript}
 use Rattle.array_runs.proofs.Asked.{elements_does, lower_does, upper_does}
 use Rattle.array_runs.proofs.Outer.{outer_array}
 use Rattle.number_runs.specs.Initial.{are_values, values_in, values_of}
-use Rattle.number_runs.specs.Arrays.{are_all_bounds, are_bounds, array_bounds, bounds_if, bounds_in, is_array, is_array_if}
+use Rattle.number_runs.specs.Arrays.{are_all_bounds, are_bounds, array_bounds, bounds_if, bounds_in, is_array}
+use Rattle.number_runs.specs.Arrays.{is_array_if}
 use Rattle.number_runs.specs.Arrays.{has_dimensions, is_array_of, is_element_type, is_grid}
 use Rattle.number_runs.specs.Knowledge.{KnowsNumbers}
 use Rattle.number_runs.specs.Narrow.{is_number_type}
 use Rattle.number_runs.specs.Numbers.{Scope, bounds_known, is_array_known, is_asked, is_automatic, is_element, is_given}
-use Rattle.number_runs.specs.Numbers.{is_grid_with, is_item, is_narrow_with, is_number, is_place, is_reference, is_variable}
+use Rattle.number_runs.specs.Numbers.{is_grid_with, is_item, is_narrow_with, is_number, is_place, is_reference}
+use Rattle.number_runs.specs.Numbers.{is_variable}
 use Rattle.number_runs.specs.Numbers.{number_needs, spot_of, type_known}
 use Rattle.number_runs.proofs.Narrow.{narrow_with_is, number_type_is}
 use Rattle.number_runs.proofs.Variables.{automatic_is, parameter_is, part_is, variable_is}

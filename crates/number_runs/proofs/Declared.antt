@@ -2,10 +2,8 @@
 -- be made.
 use Rattle.std.proofs.Common.{◌≡◌, ◌⊎◌, inl, inr, ℕ, ◌+◌, ◌*◌, ◌<◌, ◌≤◌, List, [], None, true}
 use Rattle.std.proofs.Common.{◌^◌, Bool, false, refl, sym, ap, subst, arith}
-use Rattle.std.specs.Prelude.{◌%◌, ℤ, negsuc, pos, ◌-ℤ◌, ◌+ℤ◌, ◌||◌, cond, int_le, nat_le, nat_lt}
+use Rattle.std.specs.Prelude.{◌%◌, pos, ◌||◌, cond, nat_le, nat_lt}
 use Rattle.std.proofs.lemmas.Bool.{and_parts, ltb-true, or_cases}
-use Rattle.std.proofs.lemmas.Bool.Decides.{nat_tests}
-use Rattle.std.proofs.lemmas.Int.{ints}
 use Rattle.pli_language.specs.Tree as T
 use Rattle.pli_typing.specs.Signatures.{data_size, footprint, rounded_up}
 use Rattle.pli_typing.specs.TypedTree as Y

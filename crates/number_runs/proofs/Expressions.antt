@@ -448,7 +448,8 @@ mutual
       HasLists h (number_sets x) → Does k (number_needs x) x
   number_does s k (Y.NumberConstant n) h is room = constant_does k n (ltb-true n (2 ^ 31) is)
   number_does s k (Y.NumberIn r) h is room =
-      named_does s k r h (or_cases (is_reference s r) (is_narrow_with s is_number_type r || is_item s is_number_type r) is)
+      named_does s k r h
+      (or_cases (is_reference s r) (is_narrow_with s is_number_type r || is_item s is_number_type r) is)
       (λ one. reference_does s k r h one room) (λ one. item_does s k r h one room)
   number_does s k (Y.NumberFrom c) h is room = call_does s k c h is room
   number_does s k (Y.Signed sign x) h is room =
@@ -594,7 +595,8 @@ mutual
       scalar_does s k r h (or_cases (is_variable s r) (is_given s r) is)
   reference_does s k (Y.Referring v Y.NotLocated part (Y.NumberThen first rest)) h is room =
       let need = subscripts_need (Y.NumberThen first rest) in
-      let a = and_parts (is_element s is_fixed v part (suc (given_in rest))) (is_number s first && are_numbers s rest) is in
+      let a = and_parts (is_element s is_fixed v part (suc (given_in rest)))
+      (is_number s first && are_numbers s rest) is in
       let b = and_parts (is_number s first) (are_numbers s rest) a.1 in
       element_number s k is_fixed v part (Y.NumberThen first rest) h a.0 (λ t passes. (31, fixed_is t passes))
       (first_then k 0 need first rest (subscript_given s k 0 need first h b.0 (omega arith)
@@ -610,7 +612,8 @@ mutual
       HasLists h (reference_sets r) → Does k (reference_needs r) (Y.NumberIn r)
   item_does s k (Y.Referring v Y.NotLocated part (Y.NumberThen first rest)) h is room =
       let need = subscripts_need (Y.NumberThen first rest) in
-      let a = and_parts (is_element s is_number_type v part (suc (given_in rest))) (is_number s first && are_numbers s rest) is in
+      let a = and_parts (is_element s is_number_type v part (suc (given_in rest)))
+      (is_number s first && are_numbers s rest) is in
       let b = and_parts (is_number s first) (are_numbers s rest) a.1 in
       element_number s k is_number_type v part (Y.NumberThen first rest) h a.0 number_type_is
       (first_then k 0 need first rest (subscript_given s k 0 need first h b.0 (omega arith)
@@ -624,7 +627,8 @@ mutual
       HasLists h (reference_sets r) → Tests k (reference_needs r) (Y.BitIn r)
   bit_item_tests s k (Y.Referring v Y.NotLocated part (Y.NumberThen first rest)) h is room =
       let need = subscripts_need (Y.NumberThen first rest) in
-      let a = and_parts (is_element s is_bit v part (suc (given_in rest))) (is_number s first && are_numbers s rest) is in
+      let a = and_parts (is_element s is_bit v part (suc (given_in rest)))
+      (is_number s first && are_numbers s rest) is in
       let b = and_parts (is_number s first) (are_numbers s rest) a.1 in
       element_bit s k v part (Y.NumberThen first rest) h a.0
       (first_then k 0 need first rest (subscript_given s k 0 need first h b.0 (omega arith)

@@ -403,8 +403,8 @@ given_does h labels (Y.Referring v Y.NotLocated part Y.NoNumber) source line ind
     scalar_does h labels r source line index includes is (or_cases (is_variable h.scope r) (is_given h.scope r) one) two
     (omega (arith, fits))
     (λ c. let room = (sets c).1 in ((sets c).0, omega (arith, room)))
-given_does h labels (Y.Referring v Y.NotLocated part (Y.NumberThen first rest)) source line index includes is one two fits
-    sets =
+given_does h labels (Y.Referring v Y.NotLocated part (Y.NumberThen first rest)) source line index includes is one two
+    fits sets =
     let a = and_parts (is_element h.scope is_fixed v part (suc (X.given_in rest)))
     (is_number h.scope first && are_numbers h.scope rest) one in
     element_given h labels v part (Y.NumberThen first rest) source line index includes is a.0 a.1 two

@@ -1,6 +1,6 @@
 -- Assignments to elements of any type.
-use Rattle.std.proofs.Common.{◌≡◌, ◌⊎◌, inl, inr, ℕ, ◌+◌, ◌<◌, ◌≤◌, List, [], true, false, refl, sym, subst, arith}
-use Rattle.std.specs.Prelude.{◌&&◌, Bool, max, suc}
+use Rattle.std.proofs.Common.{◌≡◌, ◌⊎◌, inl, inr, ℕ, ◌<◌, ◌≤◌, List, true, sym, subst, arith}
+use Rattle.std.specs.Prelude.{◌&&◌, max, suc}
 use Rattle.std.proofs.lemmas.Bool.{and_parts, cases_lt}
 use Rattle.pli_typing.specs.TypedTree as Y
 use Rattle.pli_coding.specs.Expressions.{given_in}
@@ -90,7 +90,8 @@ bit_item h labels (Y.Referring v Y.NotLocated part (Y.NumberThen first rest)) x 
     sets =
     let s = h.scope in
     let xs = Y.NumberThen first rest in
-    let a = and_parts (is_element s is_bit v part (suc (given_in rest))) (is_number s first && are_numbers s rest) one in
+    let a = and_parts (is_element s is_bit v part (suc (given_in rest))) (is_number s first && are_numbers s rest)
+    one in
     let t = element_is s is_bit v part xs a.0 in
     let g = bounds_known s t.spot in
     let second = suc (subscripts_need xs) in

@@ -167,7 +167,8 @@ mutual
       Sets (number_needs x) (number_sets x) t (number_takes t x)
   number_taken s (Y.NumberConstant n) t h fits = sets_none t
   number_taken s (Y.NumberIn r) t h fits =
-      named_taken s r t (or_cases (is_reference s r) (is_narrow_with s is_number_type r || is_item s is_number_type r) h)
+      named_taken s r t
+      (or_cases (is_reference s r) (is_narrow_with s is_number_type r || is_item s is_number_type r) h)
       (λ one. reference_taken s r t one fits) (λ one. item_taken s is_number_type r t one fits)
   number_taken s (Y.NumberFrom c) t h fits = call_taken s c t h fits
   number_taken s (Y.Signed sign x) t h fits =

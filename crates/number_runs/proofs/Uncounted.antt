@@ -14,7 +14,8 @@ use Rattle.pli_coding.specs.Statements.{block_takes, block_words, stmt_takes, st
 use Rattle.number_runs.specs.Counting.{condition_sets, is_condition, is_count}
 use Rattle.number_runs.specs.Narrow.{has_precision, is_bit, is_text_type}
 use Rattle.number_runs.specs.Numbers.{Scope, are_arguments, gives_lists, is_fixed, is_number, is_reference, is_test}
-use Rattle.number_runs.specs.Numbers.{is_item, is_narrow_with, reference_sets, is_text, without_given, IsBare, without_located}
+use Rattle.number_runs.specs.Numbers.{is_item, is_narrow_with, reference_sets, is_text, without_given, IsBare}
+use Rattle.number_runs.specs.Numbers.{without_located}
 use Rattle.number_runs.specs.Statements.{are_statements, is_line, is_statement, is_stored, statement_needs}
 use Rattle.number_runs.specs.Statements.{behind_sets, is_allocation, is_freeing}
 use Rattle.number_runs.specs.Statements.{is_narrowed, statement_sets, statements_need, statements_set, stored_sets}

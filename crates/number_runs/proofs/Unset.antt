@@ -1,5 +1,5 @@
 -- Where calls have no arguments, and nothing that is BASED is reached, numbers set no words of the frame aside.
-use Rattle.std.proofs.Common.{◌≡◌, ◌⊎◌, inl, inr, Bool, true, false, refl, sym, ap, ◌∙◌, arith}
+use Rattle.std.proofs.Common.{◌≡◌, ◌⊎◌, inl, inr, Bool, true, refl, sym, ap, ◌∙◌, arith}
 use Rattle.std.specs.Prelude.{◌&&◌, ◌||◌, ◌==◌, suc}
 use Rattle.std.proofs.lemmas.Bool.{and_parts, or_cases}
 use Rattle.pli_typing.specs.TypedTree as Y

@@ -1,6 +1,6 @@
 -- Arrays of FIXED BINARY of 1 to 31 bits and of BIT(1), with one dimension to eight of constant bounds, which a block
 -- may declare beside its numbers.
-use Rattle.std.specs.Prelude.{ℕ, ◌==◌, ◌&&◌, Bool, false, true, List, [], ◌∷◌, int_le, length, map, nat_le, nat_lt}
+use Rattle.std.specs.Prelude.{◌==◌, ◌&&◌, Bool, false, true, List, [], ◌∷◌, int_le, length, map, nat_le, nat_lt}
 use Rattle.std.specs.Prelude.{Option, None, Some}
 use Rattle.pli_language.specs.Tree as T
 use Rattle.pli_typing.specs.TypedTree as Y
