@@ -1,5 +1,5 @@
--- A function's list in turns, at the end of each of which ERROR is raised: it goes on at its own labels, also where a unit
--- for that jumps there.
+-- A function's list in turns, at the end of each of which ERROR is raised: it goes on at its own labels, also where a
+-- unit for that jumps there.
 use Rattle.std.proofs.Common.{◌≡◌, ℕ, zero, suc, ◌+◌, ◌*◌, ◌<◌, ◌≤◌, List, [], ◌++◌, Bool, ◌⊎◌, inl, inr, true, false}
 use Rattle.std.proofs.Common.{None, Option, Some, refl, sym, ◌∙◌, subst, arith}
 use Rattle.std.proofs.lemmas.Bool.{eq-eqb}
@@ -33,11 +33,9 @@ use Rattle.program_runs.proofs.JumpsOut.{jumps_since, outs_low, outs_since}
 use Rattle.program_runs.proofs.NewestBlocks.{newest_at, newest_own}
 use Rattle.program_runs.proofs.Statements.{statement_closed}
 use Rattle.begin_runs.proofs.Begins.{out_of_all}
-use Rattle.unit_runs.specs.Establishing.{OnUnit}
 use Rattle.jump_runs.specs.Exits.{exit_aims}
-use Rattle.jump_runs.specs.Functions.{FunctionDoes, IsFunctionList, behind_list}
-use Rattle.phase_runs.specs.Forms.{IsInside}
-use Rattle.phase_runs.specs.Phases.{AreBegun, EachThrough, InSome, Phases, in_phase, phase_aims, some_aims}
+use Rattle.jump_runs.specs.Functions.{behind_list}
+use Rattle.phase_runs.specs.Phases.{AreBegun, EachThrough, Phases, in_phase, phase_aims, some_aims}
 use Rattle.phase_runs.specs.Units.{phases_of}
 use Rattle.phase_runs.proofs.Aims.{comes_in, some_closed}
 use Rattle.phase_runs.proofs.Lists.{or_else, sought_do, statements_do}
@@ -51,7 +49,8 @@ abbrev turns_aims : Block → Phases → List Label → (acts : ℕ) → Aims (U
 turns_aims k ps labels acts =
     some_aims (limits_of k.call.surroundings) ps (λ first. turn_aims (in_phase k first) labels acts left_over)
 
-turns_closed : (k : Block) (ps : Phases) (labels : List Label) (acts : ℕ) → Closed k.call.code (turns_aims k ps labels acts)
+turns_closed : (k : Block) (ps : Phases) (labels : List Label) (acts : ℕ) →
+    Closed k.call.code (turns_aims k ps labels acts)
 turns_closed k ps labels acts =
     some_closed (limits_of k.call.surroundings) ps (λ first. turn_aims (in_phase k first) labels acts left_over)
     (λ first.
@@ -90,7 +89,8 @@ turn_comes :
     Comes k.call.code 0 f v
     (phase_aims k ps (M.labels_in body ++ []) acts (behind_list k body index) 0 left_over)
     (M.statements k.around body from k.call.surroundings.acts s) →
-    Comes k.call.code 0 f v (turns_aims k ps (M.labels_in body ++ []) acts) (turn k body from k.call.surroundings.acts s)
+    Comes k.call.code 0 f v (turns_aims k ps (M.labels_in body ++ []) acts)
+    (turn k body from k.call.surroundings.acts s)
 unfolding ◌>>◌
 turn_comes k ps body index x acts from f v s o =
     let w = k.call.surroundings in
@@ -100,7 +100,8 @@ turn_comes k ps body index x acts from f v s o =
     let flow = M.statements k.around body from w.acts s in
     let next' : Unit {0} → Meaning (Unit {0}) = λ u. error k.around no_value_code in
     comes_on w.acts flow next'
-    (comes_map (phase_aims k ps own acts (behind_list k body index) 0 left_over) (before code goal w.acts next') refl flow
+    (comes_map (phase_aims k ps own acts (behind_list k body index) 0 left_over) (before code goal w.acts next') refl
+    flow
     (λ c' f' v' r s' t.
     let q = t.holds in
     let since = q.since in
@@ -267,7 +268,8 @@ starts_do :
     (turns : ℕ) (k : Block) (ps : Phases) (body : Y.Stmts) (index height : ℕ) (first : Point) → ps first → (p : Point)
     (numbers : ℕ → ℕ) (f : Family) → Turning k ps body index → height ≡ own_height k →
     k.call.surroundings.acts < turns + p.state.world.acts → IsAmong (in_phase k first) numbers p →
-    size_of (stmts_code k.environment none_taken body) ≤ cost k.call.code → AreIn k.call.surroundings p numbers index f →
+    size_of (stmts_code k.environment none_taken body) ≤ cost k.call.code →
+    AreIn k.call.surroundings p numbers index f →
     Comes k.call.code 0 f (services_of p) (turns_aims k ps [] p.state.world.acts)
     (list_from turns height (M.labels_in body) (turn k body) None k.call.surroundings.acts p.state)
 unfolding list_from

@@ -1,5 +1,5 @@
--- The statements of each block do what they mean, as deep as blocks are entered, and the lists of what is called come to
--- their end, whatever units they have by then.
+-- The statements of each block do what they mean, as deep as blocks are entered, and the lists of what is called come
+-- to their end, whatever units they have by then.
 use Rattle.std.proofs.Common.{◌≡◌, ◌⊎◌, inl, inr, ℕ, zero, suc, ◌≤◌, List, [], ◌++◌}
 use Rattle.std.proofs.Common.{Bool, Option, None, true, false, refl, sym, ◌∙◌, subst, arith}
 use Rattle.std.specs.Prelude.{◌||◌, not}
@@ -166,7 +166,8 @@ known_of {program} m h ih more blocks c o os z own waiting knows told =
     record {
       ready = ready m h ih more blocks c o os z.at own few z.clear z.home knows told;
       framed = λ count less.
-          frame_left m h ih more blocks c o os z.at own few z.clear z.home knows told count (omega (arith, words, less));
+          frame_left m h ih more blocks c o os z.at own few z.clear z.home knows told count
+          (omega (arith, words, less));
     }
 
 pub plain_of :
@@ -193,7 +194,8 @@ test_of {program} {m} {h} {c} {o} {os} {own} z labels line includes condition is
 
 -- units jump to labels of its list
 own_carries :
-    {program : Y.Program} {m : Main program} {h : Home} {c : Part} {o : Outer} {os : List Outer} → IsVisited m h c o os →
+    {program : Y.Program} {m : Main program} {h : Home} {c : Part} {o : Outer} {os : List Outer} →
+    IsVisited m h c o os →
     Carries c (labels_in c.body ++ [])
 own_carries {c = c} v unit jumps label e =
     list_any-append (same_bytes label) (labels_in c.body) []
@@ -335,7 +337,8 @@ visited_end :
     (blocks : ℕ) (c : Part) (o : Outer) (os : List Outer) → IsEntered m h (suc more) blocks c o os →
     (unit : c.unit ≡ false) → IsVisited m h c o os → IsFunctionList (block_of m h o os) c.body c.index →
     (past : Past) → AreBy (ons_in c o) past →
-    EndGoes (phase_at (block_of m h o os) past) (labels_in c.body ++ []) (behind_list (block_of m h o os) c.body c.index)
+    EndGoes (phase_at (block_of m h o os) past) (labels_in c.body ++ [])
+    (behind_list (block_of m h o os) c.body c.index)
 visited_end once {program} m more each h ih blocks c o os e unit v list' past known p numbers f among at =
     let k = phase_at (block_of m h o os) past in
     let own = labels_in c.body ++ [] in

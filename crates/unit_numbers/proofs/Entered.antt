@@ -333,7 +333,8 @@ called_entered once {program} m {h} {more} {b} {part} {out} {os} {p} {numbers} o
           top = frame_top program i.head w _ _ p.control.layers 0 (ap parameters_in i.is) plain room;
           number = refl;
           placed = λ label among.
-              label_of (links_for program) (linked_code (code_for program)) (body_for program i.head i.body) e none_taken
+              label_of (links_for program) (linked_code (code_for program)) (body_for program i.head i.body) e
+              none_taken
               i.body (body_placed once program i.head i.body (result_of v) m.loadable i.is) label among;
         };
       };

@@ -1,6 +1,7 @@
 -- The ONs of a list, of the main procedure or of what is called: each is of the class, stands at its place, and is one
 -- of the program's.
-use Rattle.std.proofs.Common.{◌≡◌, ◌⊎◌, inl, inr, ℕ, ◌+◌, ◌<◌, ◌≤◌, List, [], ◌∷◌, ◌++◌, Option, None, Some, true, false}
+use Rattle.std.proofs.Common.{◌≡◌, ◌⊎◌, inl, inr, ℕ, ◌+◌, ◌<◌, ◌≤◌, List, [], ◌∷◌, ◌++◌, Option, None, Some, true}
+use Rattle.std.proofs.Common.{false}
 use Rattle.std.proofs.Common.{refl, sym, ap, ◌∙◌, subst, arith}
 use Rattle.std.specs.Prelude.{◌==◌, ◌||◌, Bool, cond, not}
 use Rattle.std.specs.List.{list_any}
@@ -34,7 +35,8 @@ use Rattle.unit_numbers.specs.Programs.{are_apart}
 use Rattle.unit_numbers.specs.Steps.{are_steps}
 use Rattle.unit_numbers.specs.Units.{is_unit}
 use Rattle.unit_numbers.proofs.Forces.{FoundOwn, force_over}
-use Rattle.unit_numbers.proofs.Mains.{Alone, Main, all_ons, block_for, called_placed, list_of, ons_of, placed, placed_if}
+use Rattle.unit_numbers.proofs.Mains.{Alone, Main, all_ons, block_for, called_placed, list_of, ons_of, placed}
+use Rattle.unit_numbers.proofs.Mains.{placed_if}
 use Rattle.unit_numbers.proofs.Mains.{level_of, units_for}
 use Rattle.unit_numbers.proofs.Past.{main_alone, main_past}
 use Rattle.unit_numbers.proofs.Places.{all_heads_in, all_on_placed, all_placed_in, heads_of, listed_at, listed_back}
@@ -69,7 +71,8 @@ entry_low e number (p ∷ ps) index =
 
 -- ---- an ON of a list of the program
 
-pub record IsOnOf {program : Y.Program} (m : Main program) (head : Y.BlockHead) (all : Y.Stmts) (e : OnUnit × ℕ) : Type 0
+pub record IsOnOf {program : Y.Program} (m : Main program) (head : Y.BlockHead) (all : Y.Stmts) (e : OnUnit × ℕ)
+    : Type 0
   where
     pub is : is_unit program m.called head all e.0 ≡ true
     pub placed :
@@ -84,7 +87,8 @@ abbrev site_at : {program : Y.Program} → Main program → Y.BlockHead → Bloc
 site_at {program} m head = record (block_for m [] 0) { environment = environment_for program head }
 
 pub ons_are :
-    {program : Y.Program} (m : Main program) (head : Y.BlockHead) (all : Y.Stmts) (valued : Bool) (labels : List Label) (body : Y.Stmts)
+    {program : Y.Program} (m : Main program) (head : Y.BlockHead) (all : Y.Stmts) (valued : Bool) (labels : List Label)
+    (body : Y.Stmts)
     (index : ℕ) → head.level < 16 → procedures_index program ≤ index → AreStanding (site_at m head) body index →
     are_steps program m.called head all valued labels body ≡ true →
     ((e : OnUnit × ℕ) → IsListed e (all_placed_in (environment_for program head) body index) →

@@ -32,8 +32,8 @@ use Rattle.unit_numbers.proofs.Mains.{Main, list_of}
 
 -- ---- what runs
 
--- its statements name what this procedure's may, which has this list; it is a unit or a procedure's own block, writes or
--- not, and returns a number or not; its list, and where that stands
+-- its statements name what this procedure's may, which has this list; it is a unit or a procedure's own block, writes
+-- or not, and returns a number or not; its list, and where that stands
 pub record Part : Type 0 where
   pub caller : Y.BlockHead
   pub all : Y.Stmts

@@ -1,5 +1,5 @@
--- A list, of the main procedure or of what is called, through the phases that its ONs give its block: each statement does
--- what it means, if those that leave the units alone do in each phase.
+-- A list, of the main procedure or of what is called, through the phases that its ONs give its block: each statement
+-- does what it means, if those that leave the units alone do in each phase.
 use Rattle.std.proofs.Common.{◌≡◌, inl, refl, ℕ, ◌+◌, ◌*◌, ◌^◌, ◌<◌, ◌≤◌, List, ◌++◌, length, Bool}
 use Rattle.std.proofs.Common.{true, sym, ap, subst, arith}
 use Rattle.std.specs.Prelude.{◌&&◌}
@@ -48,7 +48,8 @@ abbrev pub most_of : Block → ℕ
 most_of k = length k.call.code + 2
 
 -- the block of such a list, with its ONs and its labels, and what its temporaries and its loops take
-pub record Listing {program : Y.Program} (m : Main program) (head : Y.BlockHead) (all : Y.Stmts) (valued : Bool) (k : Block)
+pub record Listing {program : Y.Program} (m : Main program) (head : Y.BlockHead) (all : Y.Stmts) (valued : Bool)
+    (k : Block)
     (ons : List (OnUnit × ℕ)) (own : List Label) (need sets : ℕ) : Type 0
   where
     pub small : k.call.surroundings.acts + 1 < 2 ^ 64
@@ -74,12 +75,14 @@ pub record Listing {program : Y.Program} (m : Main program) (head : Y.BlockHead)
         condition
 
 all_begun :
-    {program : Y.Program} {m : Main program} {head : Y.BlockHead} {all : Y.Stmts} {valued : Bool} {k : Block} {ons : List (OnUnit × ℕ)}
+    {program : Y.Program} {m : Main program} {head : Y.BlockHead} {all : Y.Stmts} {valued : Bool} {k : Block}
+    {ons : List (OnUnit × ℕ)}
     {own : List Label} {need sets : ℕ} → Listing m head all valued k ons own need sets → AreBegun k (phases_of k ons)
 all_begun {k = k} {ons} l = (phases_change k ons).begun l.begun l.placed
 
 plain_does :
-    {program : Y.Program} {m : Main program} {head : Y.BlockHead} {all : Y.Stmts} {valued : Bool} {k : Block} {ons : List (OnUnit × ℕ)}
+    {program : Y.Program} {m : Main program} {head : Y.BlockHead} {all : Y.Stmts} {valued : Bool} {k : Block}
+    {ons : List (OnUnit × ℕ)}
     {own : List Label} {need sets : ℕ} → Listing m head all valued k ons own need sets → (labels : List Label)
     (stmt : Y.Stmt) (index : ℕ) → AreAround k own labels →
     is_plain_step program m.called head all valued labels stmt ≡ true →
@@ -92,8 +95,10 @@ plain_does {k = k} {ons} l labels stmt index around is fits sets at =
     (l.plain phase.0 phase.1 labels stmt index around is fits sets at))
 
 tests_through :
-    {program : Y.Program} {m : Main program} {head : Y.BlockHead} {all : Y.Stmts} {valued : Bool} {k : Block} {ons : List (OnUnit × ℕ)}
-    {own : List Label} {need sets : ℕ} → Listing m head all valued k ons own need sets → (labels : List Label) (line : ℕ) →
+    {program : Y.Program} {m : Main program} {head : Y.BlockHead} {all : Y.Stmts} {valued : Bool} {k : Block}
+    {ons : List (OnUnit × ℕ)}
+    {own : List Label} {need sets : ℕ} → Listing m head all valued k ons own need sets →
+    (labels : List Label) (line : ℕ) →
     Includes own labels → (condition : Y.Bit) →
     is_step_test program m.called head all condition ≡ true →
     AllTest 0 k (phases_of k ons) labels line (most_of k) (test_needs condition) condition
@@ -104,13 +109,15 @@ tests_through {k = k} l labels line includes condition is first phase =
 -- ---- what stands around each of them
 
 step_act :
-    {program : Y.Program} {m : Main program} {head : Y.BlockHead} {all : Y.Stmts} {valued : Bool} {k : Block} {ons : List (OnUnit × ℕ)}
+    {program : Y.Program} {m : Main program} {head : Y.BlockHead} {all : Y.Stmts} {valued : Bool} {k : Block}
+    {ons : List (OnUnit × ℕ)}
     {own : List Label} {need sets : ℕ} → Listing m head all valued k ons own need sets → (line : ℕ) →
     is_line line ≡ true → HasAct k line
 step_act l line is = record { line_fits = ltb-true line (2 ^ 31) is; acts = l.small }
 
 step_test :
-    {program : Y.Program} {m : Main program} {head : Y.BlockHead} {all : Y.Stmts} {valued : Bool} {k : Block} {ons : List (OnUnit × ℕ)}
+    {program : Y.Program} {m : Main program} {head : Y.BlockHead} {all : Y.Stmts} {valued : Bool} {k : Block}
+    {ons : List (OnUnit × ℕ)}
     {own : List Label} {need sets : ℕ} → Listing m head all valued k ons own need sets → (stmt : Y.Stmt)
     (condition : Y.Bit) (line index : ℕ) → is_line line ≡ true → test_needs condition ≤ need → Standing k stmt index →
     HasTestWith 0 k stmt line index (test_needs condition) (most_of k)
@@ -126,7 +133,8 @@ step_test l stmt condition line index is fits at =
     }
 
 pub inside_of :
-    {program : Y.Program} {m : Main program} {head : Y.BlockHead} {all : Y.Stmts} {valued : Bool} {k : Block} {ons : List (OnUnit × ℕ)}
+    {program : Y.Program} {m : Main program} {head : Y.BlockHead} {all : Y.Stmts} {valued : Bool} {k : Block}
+    {ons : List (OnUnit × ℕ)}
     {own : List Label} {need sets : ℕ} → Listing m head all valued k ons own need sets → (body : Y.Stmts) (index : ℕ) →
     AreStanding k body index → G.IsInside 0 k (phases_of k ons) body index
 inside_of {k = k} l body index at =
@@ -147,7 +155,8 @@ abbrev AreAmong : (xs ons : List (OnUnit × ℕ)) → Type 0
 AreAmong xs ons = (e : OnUnit × ℕ) → IsListed e ons → IsListed e xs
 
 on_step :
-    {program : Y.Program} {m : Main program} {head : Y.BlockHead} {all : Y.Stmts} {valued : Bool} {k : Block} {ons : List (OnUnit × ℕ)}
+    {program : Y.Program} {m : Main program} {head : Y.BlockHead} {all : Y.Stmts} {valued : Bool} {k : Block}
+    {ons : List (OnUnit × ℕ)}
     {own : List Label} {need sets : ℕ} → Listing m head all valued k ons own need sets → (labels : List Label)
     (x : OnUnit) (index : ℕ) → is_unit program m.called head all x ≡ true → IsListed (x, index) ons →
     Standing k (on_of x) index → DoesThrough 0 k (phases_of k ons) labels (on_of x) index left_over
@@ -162,8 +171,10 @@ on_step {program} {m} {head} {all} {k = k} {ons} l labels x index is listed at =
 
 mutual
   pub step_does :
-      {program : Y.Program} {m : Main program} {head : Y.BlockHead} {all : Y.Stmts} {valued : Bool} {k : Block} {ons : List (OnUnit × ℕ)}
-      {own : List Label} {need sets : ℕ} → Listing m head all valued k ons own need sets → (labels : List Label) (stmt : Y.Stmt) (index : ℕ) →
+      {program : Y.Program} {m : Main program} {head : Y.BlockHead} {all : Y.Stmts} {valued : Bool} {k : Block}
+      {ons : List (OnUnit × ℕ)}
+      {own : List Label} {need sets : ℕ} → Listing m head all valued k ons own need sets →
+      (labels : List Label) (stmt : Y.Stmt) (index : ℕ) →
       AreAround k own labels →
       is_step program m.called head all valued labels stmt ≡ true →
       statement_needs stmt ≤ need → statement_sets stmt ≤ sets →
@@ -182,7 +193,8 @@ mutual
       revert_through 0 k (phases_of k ons) labels condition line index left_over
       (record { act = step_act l line is; statement = at.linked }) (all_begun l)
       ((phases_change k ons).kept (ByRevert condition) tt)
-  step_does {program} {m} {head} {all} {valued} {k} {ons} {own} l labels (Y.If condition unit line) index around is fits sets at among =
+  step_does {program} {m} {head} {all} {valued} {k} {ons} {own} l labels (Y.If condition unit line) index around is
+      fits sets at among =
       let test = is_step_test program m.called head all condition in
       let inner = is_step program m.called head all valued labels unit in
       let a = and_parts (is_line line) (test && inner) is in
@@ -193,7 +205,8 @@ mutual
       (tests_through l labels line around.includes condition b.0)
       (step_does l labels unit (behind_test k condition (behind_act line index)) around b.1
       (omega (arith, fits)) (omega (arith, sets)) (met_stands k condition unit line index at) among)
-  step_does {program} {m} {head} {all} {valued} {k} {ons} {own} l labels (Y.IfElse condition unit otherwise line) index around is fits sets at
+  step_does {program} {m} {head} {all} {valued} {k} {ons} {own} l labels (Y.IfElse condition unit otherwise line) index
+      around is fits sets at
       among =
       let e = k.environment in
       let test = is_step_test program m.called head all condition in
@@ -215,7 +228,8 @@ mutual
       (step_does l labels otherwise behind around c.1 (omega (arith, fits)) (omega (arith, sets))
       (second_stands k condition unit otherwise line index at)
       (λ x h. among x (listed_back x (placed_in e unit chosen) (placed_in e otherwise behind) h)))
-  step_does {program} {m} {head} {all} {valued} {k} {ons} {own} l labels (Y.Do body line) index around is fits sets at among =
+  step_does {program} {m} {head} {all} {valued} {k} {ons} {own} l labels (Y.Do body line) index around is fits sets at
+      among =
       let inner = are_steps program m.called head all valued (labels_in body ++ labels) body in
       let a = and_parts (is_line line) inner is in
       let at' = group_stands k body line index at in
@@ -224,7 +238,8 @@ mutual
       (steps_do l (labels_in body ++ labels) body (list_index line index)
       (Labels.placed_in 0 k own body (list_index line index) labels at' around) a.1 fits sets
       at' among)
-  step_does {program} {m} {head} {all} {valued} {k} {ons} {own} l labels (Y.DoWhile condition body line) index around is fits sets at among =
+  step_does {program} {m} {head} {all} {valued} {k} {ons} {own} l labels (Y.DoWhile condition body line) index around
+      is fits sets at among =
       let test = is_step_test program m.called head all condition in
       let inner = are_steps program m.called head all valued (labels_in body ++ labels) body in
       let a = and_parts (is_line line) (test && inner) is in
@@ -282,8 +297,10 @@ mutual
       plain_does l labels (Y.Put skip pairs line) index around is fits sets at
 
   pub steps_do :
-      {program : Y.Program} {m : Main program} {head : Y.BlockHead} {all : Y.Stmts} {valued : Bool} {k : Block} {ons : List (OnUnit × ℕ)}
-      {own : List Label} {need sets : ℕ} → Listing m head all valued k ons own need sets → (labels : List Label) (body : Y.Stmts) (index : ℕ) →
+      {program : Y.Program} {m : Main program} {head : Y.BlockHead} {all : Y.Stmts} {valued : Bool} {k : Block}
+      {ons : List (OnUnit × ℕ)}
+      {own : List Label} {need sets : ℕ} → Listing m head all valued k ons own need sets →
+      (labels : List Label) (body : Y.Stmts) (index : ℕ) →
       AreAround k own labels →
       are_steps program m.called head all valued labels body ≡ true →
       statements_need body ≤ need → statements_set body ≤ sets →
@@ -291,7 +308,8 @@ mutual
       AreAmong ons (all_placed_in k.environment body index) →
       EachThrough 0 k (phases_of k ons) labels body index left_over
   steps_do l labels (Y.EndOfList own) index around is fits sets at among = tt
-  steps_do {program} {m} {head} {all} {valued} {k} {ons} l labels (Y.StmtThen own first rest) index around is fits sets at among =
+  steps_do {program} {m} {head} {all} {valued} {k} {ons} l labels (Y.StmtThen own first rest) index around is fits sets
+      at among =
       let e = k.environment in
       let a = and_parts (is_step program m.called head all valued labels first)
       (are_steps program m.called head all valued labels rest) is in

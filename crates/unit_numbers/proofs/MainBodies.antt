@@ -46,7 +46,8 @@ use Rattle.unit_numbers.proofs.Established.{start_of}
 use Rattle.unit_numbers.proofs.Homes.{Home, IsHome', home_block, home_is, home_told, plain_home, told_home}
 use Rattle.unit_numbers.proofs.Hosts.{InForce, MayLand, Part}
 use Rattle.unit_numbers.proofs.Listing.{Listing, inside_of, steps_do}
-use Rattle.unit_numbers.proofs.Mains.{Alone, Main, all_ons, block_for, level_of, list_of, main_held, main_scope, main_begun, main_layer}
+use Rattle.unit_numbers.proofs.Mains.{Alone, Main, all_ons, block_for, level_of, list_of, main_held, main_scope}
+use Rattle.unit_numbers.proofs.Mains.{main_begun, main_layer}
 use Rattle.unit_numbers.proofs.Mains.{most_for, ons_of, placed}
 use Rattle.unit_numbers.proofs.Past.{alone_parent, main_alone, main_past, past_like}
 use Rattle.unit_numbers.proofs.Places.{listed_at}
@@ -278,7 +279,8 @@ main_tests once m input (suc more) small b past known labels line includes condi
 main_listing :
     MarkedOnce → {program : Y.Program} (m : Main program) (input : List ℕ) (acts : ℕ) → acts + 1 < 2 ^ 64 →
     IsBegun (block_for m input acts) →
-    Listing m m.head (list_of m) false (block_for m input acts) (ons_of m) (labels_in (list_of m)) (statements_need (list_of m))
+    Listing m m.head (list_of m) false (block_for m input acts) (ons_of m) (labels_in (list_of m))
+    (statements_need (list_of m))
     (statements_set (list_of m))
 main_listing once {program} m input acts small b =
     let some = b.acts in

@@ -107,7 +107,8 @@ pub nested_jump_call_does :
     ((p : Point) (numbers : ℕ → ℕ) → IsAmong k numbers p →
     AreMade k.call.surroundings k.call.code c p numbers) →
     ((p : Point) (numbers : ℕ → ℕ) → IsAmong k numbers p → IsBegun (block_in k labels c p numbers) →
-    ListDoes (block_in k labels c p numbers) c.procedure.body (body_index c) left_over) → IsBegun k → DoesWith words k labels (call_at c level line) index left'
+    ListDoes (block_in k labels c p numbers) c.procedure.body (body_index c) left_over) → IsBegun k →
+    DoesWith words k labels (call_at c level line) index left'
 unfolding M.statement ◌>>=◌ ◌>>◌
 nested_jump_call_does words k labels c level line index left' more h few made' each b p numbers credits wanted f o paid
     there =

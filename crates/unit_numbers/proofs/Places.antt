@@ -289,7 +289,8 @@ mutual
   on_placed program ns main all k valued labels (Y.AssignArea target source line) index is at e h = absurd h
   on_placed program ns main all k valued labels (Y.EmptyArea target line) index is at e h = absurd h
   on_placed program ns main all k valued labels (Y.DoOnce variable start condition body line) index is at e h = absurd h
-  on_placed program ns main all k valued labels (Y.DoCount counter start limit step condition body line) index is at e h =
+  on_placed program ns main all k valued labels (Y.DoCount counter start limit step condition body line) index is at e
+      h =
       absurd h
   on_placed program ns main all k valued labels (Y.Begin block) index is at e h = absurd h
   on_placed program ns main all k valued labels (Y.Signal condition line) index is at e h = absurd h
@@ -303,15 +304,18 @@ mutual
   pub all_on_placed :
       (program : Y.Program) (ns : List ℕ) (main : Y.BlockHead) (all : Y.Stmts) (k : Block) (valued : Bool)
       (labels : List Label)
-      (body : Y.Stmts) (index : ℕ) → are_steps program ns main all valued labels body ≡ true → AreStanding k body index →
+      (body : Y.Stmts) (index : ℕ) → are_steps program ns main all valued labels body ≡ true →
+      AreStanding k body index →
       (e : OnUnit × ℕ) → IsListed e (all_placed_in k.environment body index) → IsPlaced program ns main all k index e
   all_on_placed program ns main all k valued labels (Y.EndOfList own) index is at e h = absurd h
   all_on_placed program ns main all k valued labels (Y.StmtThen own first rest) index is at e h =
-      let a = and_parts (is_step program ns main all valued labels first) (are_steps program ns main all valued labels rest) is in
+      let a = and_parts (is_step program ns main all valued labels first)
+      (are_steps program ns main all valued labels rest) is in
       let here = index + size_of (marked k.environment.block own) in
       let behind = here + size_of (stmt_code k.environment none_taken first) in
       placed_from index (omega arith)
       (two_placed here (placed_in k.environment first here) (all_placed_in k.environment rest behind) e
       (λ q. on_placed program ns main all k valued labels first here a.0 (one_stands k own first rest index at) e q)
       (λ q. placed_from here (omega arith)
-      (all_on_placed program ns main all k valued labels rest behind a.1 (rest_stands k own first rest index at) e q)) h)
+      (all_on_placed program ns main all k valued labels rest behind a.1 (rest_stands k own first rest index at) e q))
+      h)

@@ -59,7 +59,8 @@ use Rattle.called_units.proofs.Hosts.{ancestor_dropped, hosts_known}
 use Rattle.unit_numbers.specs.Calls.{has_jumps, scope_in}
 use Rattle.unit_numbers.proofs.Established.{all_apart}
 use Rattle.unit_numbers.proofs.Homes.{Home, IsHome', world_of}
-use Rattle.unit_numbers.proofs.Hosts.{HasNames, IsNext, Lower, Newest, Own, Part, force_next, host_scope, in_force_below}
+use Rattle.unit_numbers.proofs.Hosts.{HasNames, IsNext, Lower, Newest, Own, Part, force_next, host_scope}
+use Rattle.unit_numbers.proofs.Hosts.{in_force_below}
 use Rattle.unit_numbers.proofs.Mains.{Main, all_ons, main_scope, most_for}
 use Rattle.unit_numbers.proofs.Places.{listed_at, one_place}
 use Rattle.unit_numbers.proofs.Scenes.{Carries, IsAt, IsEntered, IsInside, block_of, may_host}
@@ -300,7 +301,8 @@ own_inside {program} {m} {h} {more} {b} {c} {o} {os} {words} {labels} {line} n {
 
 own_source :
     {program : Y.Program} {m : Main program} {h : Home} {more b : ℕ} {c : Part} {o : Outer} {os : List Outer}
-    {condition : Condition} → IsAt m h (suc more) (suc b) c o os → Own m (block_of m h o os) c.unit c.caller c.all condition →
+    {condition : Condition} → IsAt m h (suc more) (suc b) c o os →
+    Own m (block_of m h o os) c.unit c.caller c.all condition →
     Source m h more b c o os condition
 own_source {m = m} {h} {c = c} {o} {os} a n =
     let k = block_of m h o os in

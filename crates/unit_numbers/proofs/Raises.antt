@@ -107,7 +107,8 @@ unit_does {program} m h ih more b c o os a each own carries words labels include
 
 pub error_at :
     (X : Type 0) → MarkedOnce → {program : Y.Program} (m : Main program) (h : Home) → IsHome' m h →
-    (more blocks : ℕ) (c : Part) (o : Outer) (os : List Outer) → IsAt m h (suc more) blocks c o os → EachBody m more → (own : List Label) →
+    (more blocks : ℕ) (c : Part) (o : Outer) (os : List Outer) → IsAt m h (suc more) blocks c o os → EachBody m more →
+    (own : List Label) →
     Carries c own → (words : ℕ) (labels : List Label) → Includes own labels → (line : ℕ)
     (r : ErrorRoutines (links_for program) (linked_code (code_for program))) →
     ErrorGoes X (raise_setting m h o os words labels line) r
@@ -115,7 +116,8 @@ error_at X once {program} m h ih more blocks c o os a each own carries words lab
     by blocks a (a.forced C.Error)
   where
     by :
-        (blocks' : ℕ) → IsAt m h (suc more) blocks' c o os → InForce m (block_of m h o os) c.unit c.caller c.all C.Error →
+        (blocks' : ℕ) → IsAt m h (suc more) blocks' c o os → InForce m (block_of m h o os) c.unit c.caller c.all
+        C.Error →
         ErrorGoes X (raise_setting m h o os words labels line) r
     by blocks' a' (inl system) =
         let inside = r.routines.linked.inside in
@@ -140,7 +142,8 @@ overflow_at :
     MarkedOnce → {program : Y.Program} (m : Main program) (h : Home) → IsHome' m h → (more blocks : ℕ) (c : Part)
     (o : Outer) (os : List Outer) → IsAt m h (suc more) blocks c o os → EachBody m more → (own : List Label) →
     Carries c own → (words : ℕ) (labels : List Label) → Includes own labels → (line : ℕ) →
-    InForce m (block_of m h o os) c.unit c.caller c.all C.FixedOverflow → OverflowComes (raise_setting m h o os words labels line)
+    InForce m (block_of m h o os) c.unit c.caller c.all C.FixedOverflow →
+    OverflowComes (raise_setting m h o os words labels line)
 overflow_at once {program} m h ih more blocks c o os a each own carries words labels includes line (inl system) =
     let routines = error_routines once program m.loadable in
     let inside = routines.routines.linked.inside in
@@ -166,7 +169,8 @@ divide_at :
     MarkedOnce → {program : Y.Program} (m : Main program) (h : Home) → IsHome' m h → (more blocks : ℕ) (c : Part)
     (o : Outer) (os : List Outer) → IsAt m h (suc more) blocks c o os → EachBody m more → (own : List Label) →
     Carries c own → (words : ℕ) (labels : List Label) → Includes own labels → (line : ℕ) →
-    InForce m (block_of m h o os) c.unit c.caller c.all C.ZeroDivide → ZeroDivideComes (raise_setting m h o os words labels line)
+    InForce m (block_of m h o os) c.unit c.caller c.all C.ZeroDivide →
+    ZeroDivideComes (raise_setting m h o os words labels line)
 divide_at once {program} m h ih more blocks c o os a each own carries words labels includes line (inl system) =
     let routines = error_routines once program m.loadable in
     let inside = routines.routines.linked.inside in
@@ -263,7 +267,8 @@ signal_at once {program} m h ih more blocks c o os a each own carries labels inc
     goes = error_at (Unit {0}) once m h ih more blocks c o os a each own carries 0 labels includes line routines
 
     raises :
-        (blocks' : ℕ) → IsAt m h (suc more) blocks' c o os → InForce m (block_of m h o os) c.unit c.caller c.all condition →
+        (blocks' : ℕ) → IsAt m h (suc more) blocks' c o os → InForce m (block_of m h o os) c.unit c.caller c.all
+        condition →
         RaisesTo (raise_setting m h o os 0 labels line) condition (code_signalled condition)
     raises blocks' a' (inl system) =
         let inside = routines.routines.linked.inside in

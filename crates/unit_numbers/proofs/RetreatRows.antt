@@ -24,7 +24,8 @@ use Rattle.run_steps.proofs.Linking.{linked_length}
 use Rattle.expression_runs.specs.Variables.{number_declared, whole}
 use Rattle.pli_headline.specs.Headline.{FitsMemory, parts}
 use Rattle.unit_numbers.specs.Headlines.{IsUnitProgram}
-use Rattle.unit_numbers.specs.RetreatRows.{head_at, host_body, host_procedure, retreat_body, retreat_label, retreat_main}
+use Rattle.unit_numbers.specs.RetreatRows.{head_at, host_body, host_procedure, retreat_body, retreat_label}
+use Rattle.unit_numbers.specs.RetreatRows.{retreat_main}
 use Rattle.unit_numbers.specs.RetreatRows.{retreat_program, retreat_spot, twice_body, twice_procedure}
 
 -- ---- it is well formed
@@ -47,7 +48,12 @@ in_main = record { program = retreat_program; table = table; around = main_entry
 
 abbrev in_twice : Where
 in_twice =
-    record { program = retreat_program; table = table; around = twice_entry ∷ main_entry ∷ []; returning = Returns None }
+    record {
+      program = retreat_program;
+      table = table;
+      around = twice_entry ∷ main_entry ∷ [];
+      returning = Returns None;
+    }
 
 abbrev in_host : Where
 in_host =
@@ -153,7 +159,13 @@ main_sound = record {
         (
           (at_main, (tt, (tt, tt))),
           (
-            ((omega arith, omega arith), ((main_number, (at_main, (tt, (tt, tt)))), (main_number, (at_main, (tt, (tt, tt)))))),
+            (
+              (omega arith, omega arith),
+              (
+                (main_number, (at_main, (tt, (tt, tt)))),
+                (main_number, (at_main, (tt, (tt, tt)))),
+              ),
+            ),
             omega arith,
           ),
         ),
@@ -183,7 +195,13 @@ twice_sound = record {
       (
         (at_twice, (tt, (tt, tt))),
         (
-          ((omega arith, omega arith), ((twice_number, (at_twice, (tt, (tt, tt)))), (twice_number, (at_twice, (tt, (tt, tt)))))),
+          (
+            (omega arith, omega arith),
+            (
+              (twice_number, (at_twice, (tt, (tt, tt)))),
+              (twice_number, (at_twice, (tt, (tt, tt)))),
+            ),
+          ),
           omega arith,
         ),
       ),

@@ -116,7 +116,8 @@ pub record IsPart {program : Y.Program} (m : Main program) (c : Part) (o : Outer
       (stmts_code o.environment none_taken c.body)
 
 -- a unit's own block: further out is that which established the unit, its static parent
-pub record IsInside {program : Y.Program} (m : Main program) (h : Home) (c : Part) (o : Outer) (os : List Outer) : Type 0
+pub record IsInside {program : Y.Program} (m : Main program) (h : Home) (c : Part) (o : Outer) (os : List Outer)
+    : Type 0
   where
     pub block : Block
     pub lands : MayLand program block c.caller c.all
@@ -252,7 +253,8 @@ placed_outer place o = record o { first = with_edits (place ∷ o.first.control.
 
 pub at_placed :
     {program : Y.Program} {m : Main program} {h : Home} {more blocks : ℕ} {c : Part} {o : Outer} {os : List Outer}
-    (a : IsAt m h more blocks c o os) → IsStill c → (place : EditPlace) → IsAt m h more blocks c (placed_outer place o) os
+    (a : IsAt m h more blocks c o os) → IsStill c → (place : EditPlace) →
+    IsAt m h more blocks c (placed_outer place o) os
 at_placed {program} {m} {h} {more} {blocks} {c} {o} {os} a still place =
     let k = block_of m h o os in
     let free = a.free in

@@ -39,7 +39,8 @@ abbrev Taken_by : Y.Stmt → Type 0
 Taken_by stmt = Sets (statement_needs stmt) (statement_sets stmt) none_taken (stmt_takes none_taken stmt)
 
 plain_taken :
-    (program : Y.Program) (ns : List ℕ) (main : Y.BlockHead) (all : Y.Stmts) (valued : Bool) (labels : List Label) (stmt : Y.Stmt) →
+    (program : Y.Program) (ns : List ℕ) (main : Y.BlockHead) (all : Y.Stmts) (valued : Bool) (labels : List Label)
+    (stmt : Y.Stmt) →
     is_plain_step program ns main all valued labels stmt ≡ true → statement_needs stmt ≤ held_registers → Taken_by stmt
 plain_taken program ns main all valued labels stmt h fits =
     by (or_cases (is_statement silent valued labels stmt) (is_statement written valued labels stmt) h)
@@ -139,11 +140,13 @@ mutual
 
   pub steps_taken :
       (program : Y.Program) (ns : List ℕ) (main : Y.BlockHead) (all : Y.Stmts) (valued : Bool) (labels : List Label)
-      (body : Y.Stmts) → are_steps program ns main all valued labels body ≡ true → statements_need body ≤ held_registers →
+      (body : Y.Stmts) → are_steps program ns main all valued labels body ≡ true →
+      statements_need body ≤ held_registers →
       Sets (statements_need body) (statements_set body) none_taken (stmts_take none_taken body)
   steps_taken program ns main all valued labels (Y.EndOfList own) h fits = nothing_taken
   steps_taken program ns main all valued labels (Y.StmtThen own first rest) h fits =
-      let a = and_parts (is_step program ns main all valued labels first) (are_steps program ns main all valued labels rest) h in
+      let a = and_parts (is_step program ns main all valued labels first)
+      (are_steps program ns main all valued labels rest) h in
       either_taken (statement_needs first) (statements_need rest) (statement_sets first) (statements_set rest)
       none_taken (stmt_takes none_taken first) (stmts_take none_taken rest)
       (step_taken program ns main all valued labels first a.0 (omega (arith, fits)))

@@ -65,8 +65,8 @@ is_silent caller unit all = is_jumped_to unit all && (not (caller.level == 0) ||
 -- a block whose statements may name the variables that a block may name, and call what that may: itself, or the
 -- procedure or function of which it is a unit, which has this list. It may write numbers, or it writes none. The main
 -- procedure's own list, if units jump to its labels, writes nothing that raises a condition for which it has a unit, so
--- that no place in a format list is in use there: nothing at all with a unit for ERROR, which writing raises; and so does
--- no other list to whose labels units jump. A unit doesn't return, and may jump to the labels of that list.
+-- that no place in a format list is in use there: nothing at all with a unit for ERROR, which writing raises; and so
+-- does no other list to whose labels units jump. A unit doesn't return, and may jump to the labels of that list.
 abbrev pub scope_in :
     Y.Program → List ℕ → (all : Y.Stmts) → (caller : Y.BlockHead) → (unit writes : Bool) → Scope
 scope_in program ns all caller unit writes =
