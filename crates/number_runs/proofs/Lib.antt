@@ -10,6 +10,7 @@ pub mod AreaWords
 pub mod AreaNames
 pub mod AreaKnown
 pub mod Unset
+pub mod Taken
 pub mod Takes
 pub mod BlocksTaken
 pub mod Waiting

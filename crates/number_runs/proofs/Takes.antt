@@ -4,7 +4,7 @@
 use Rattle.std.proofs.Common.{◌≡◌, ◌⊎◌, inl, inr, ℕ, suc, ◌+◌, ◌<◌, ◌≤◌, List, [], ◌∷◌, ◌++◌, true, refl, sym}
 use Rattle.std.proofs.Common.{ap, subst, arith, None, Option, Some}
 use Rattle.std.specs.Prelude.{◌&&◌, ◌||◌, ◌==◌, Bool, max, not, if◌then◌else◌}
-use Rattle.std.proofs.lemmas.Bool.{and_parts, lt-ltb, or_cases}
+use Rattle.std.proofs.lemmas.Bool.{and_parts, or_cases}
 use Rattle.pli_typing.specs.TypedTree as Y
 use Rattle.pli_meaning.specs.Control.{Label}
 use Rattle.pli_meaning.specs.Executing.{labels_in}
@@ -32,7 +32,7 @@ use Rattle.number_runs.specs.Numbers.{numbers_need, numbers_set, reference_needs
 use Rattle.number_runs.specs.Narrow.{has_precision, is_bit, is_number_type, is_text_type}
 use Rattle.number_runs.specs.Numbers.{is_narrow_with, is_wider, is_precision, is_text, text_needs, without_given}
 use Rattle.number_runs.specs.Numbers.{IsBare, without_located}
-use Rattle.number_runs.specs.Gets.{are_get_items, are_get_pairs, is_get}
+use Rattle.number_runs.specs.Gets.{are_get_items, are_get_pairs, get_items_need, get_needs, is_get, is_target}
 use Rattle.pli_coding.specs.Streams.{get_items_take, get_takes, has_text}
 use Rattle.number_runs.specs.Puts.{are_pairs, are_put_items, is_put, is_put_item, is_put_list, is_skip, are_shown}
 use Rattle.number_runs.specs.Puts.{is_list}
@@ -45,107 +45,11 @@ use Rattle.number_runs.proofs.Arrays.{element_is}
 use Rattle.number_runs.proofs.Based.{allocation_is, freeing_is, through_is}
 use Rattle.number_runs.proofs.Counters.{IsCounting, counting_is, counting_of, statement_is}
 use Rattle.number_runs.proofs.Narrow.{narrow_with_is}
-use Rattle.number_runs.proofs.Unset.{number_unset, test_unset}
+pub use Rattle.number_runs.proofs.Taken.{Sets, Takes, sets_behind, takes_none}
+use Rattle.number_runs.proofs.Taken.{next_number, one_more, sets_both, sets_either, sets_no_words, sets_none}
+use Rattle.number_runs.proofs.Taken.{sets_signed, takes_either, takes_next, takes_of, takes_signed}
+use Rattle.number_runs.proofs.Unset.{number_unset, reference_unset, test_unset}
 use Rattle.number_runs.proofs.Variables.{behind_number, parameter_is, variable_is}
-
--- as many registers more as are needed, at least, and no words
-pub record Takes (need : ℕ) (t taken : Taken) : Type 0 where
-  pub registers : t.registers + need ≤ taken.registers
-  pub words : taken.words ≡ t.words
-
--- or so many words
-pub record Sets (need sets : ℕ) (t taken : Taken) : Type 0 where
-  pub registers : t.registers + need ≤ taken.registers
-  pub words : taken.words ≡ t.words + sets
-
-abbrev one_more : Taken → Taken
-one_more t = record t { registers = t.registers + 1 }
-
-next_number : (t : Taken) → t.registers < held_registers → with_number t ≡ one_more t
-next_number t less =
-    ap (λ q. if q then one_more t else with_words 1 t) (lt-ltb t.registers held_registers less)
-
-pub takes_none : (t : Taken) → Takes 0 t t
-takes_none t = record { registers = omega arith; words = refl }
-
-takes_either : (m n : ℕ) (t a b : Taken) → Takes m t a → Takes n t b → Takes (max m n) t (most_taken a b)
-takes_either m n t a b x y =
-    let p = x.registers in
-    let q = y.registers in
-    let u = x.words in
-    let v = y.words in
-    record { registers = omega (arith, p, q); words = omega (arith, u, v) }
-
--- with one number more that waits
-takes_signed : (n : ℕ) (t a : Taken) → t.registers < held_registers → Takes n t a →
-    Takes (max n 1) t (most_taken (with_number t) a)
-takes_signed n t a less x =
-    let p = x.registers in
-    let u = x.words in
-    subst (λ t'. Takes (max n 1) t (most_taken t' a)) (sym (next_number t less))
-    (record { registers = omega (arith, p); words = omega (arith, u) })
-
--- behind one number that waits
-takes_next :
-    (q : ℕ) (t : Taken) (take : Taken → Taken) → t.registers < held_registers →
-    Takes q (one_more t) (take (one_more t)) → Takes (suc q) t (take (with_number t))
-takes_next q t take less x =
-    let c = x.registers in
-    let u = x.words in
-    subst (λ t'. Takes (suc q) t (take t')) (sym (next_number t less))
-    (record { registers = omega (arith, c); words = omega (arith, u) })
-
-takes_of : (need sets : ℕ) (t taken : Taken) → sets ≡ 0 → Sets need sets t taken → Takes need t taken
-takes_of need sets t taken none x =
-    let p = x.registers in
-    let u = x.words in
-    record { registers = omega (arith, p); words = omega (arith, u, none) }
-
-sets_none : (t : Taken) → Sets 0 0 t t
-sets_none t = record { registers = omega arith; words = omega arith }
-
-sets_no_words : (need : ℕ) (t taken : Taken) → Takes need t taken → Sets need 0 t taken
-sets_no_words need t taken x =
-    let p = x.registers in
-    let u = x.words in
-    record { registers = omega (arith, p); words = omega (arith, u) }
-
-sets_either :
-    (m n p q : ℕ) (t a b : Taken) → Sets m p t a → Sets n q t b → Sets (max m n) (max p q) t (most_taken a b)
-sets_either m n p q t a b x y =
-    let c = x.registers in
-    let d = y.registers in
-    let u = x.words in
-    let v = y.words in
-    record { registers = omega (arith, c, d); words = omega (arith, u, v) }
-
--- behind what takes no words
-pub sets_behind : (m n q : ℕ) (t a b : Taken) → Takes m t a → Sets n q t b → Sets (max m n) q t (most_taken a b)
-sets_behind m n q t a b x y =
-    let c = x.registers in
-    let d = y.registers in
-    let u = x.words in
-    let v = y.words in
-    record { registers = omega (arith, c, d); words = omega (arith, u, v) }
-
--- one value waits while another is computed
-sets_both :
-    (m n p q : ℕ) (t a b : Taken) → Sets m p t a → Sets n q (one_more t) b →
-    Sets (max m (suc n)) (max p q) t (most_taken a b)
-sets_both m n p q t a b x y =
-    let c = x.registers in
-    let d = y.registers in
-    let u = x.words in
-    let v = y.words in
-    record { registers = omega (arith, c, d); words = omega (arith, u, v) }
-
-sets_signed : (n p : ℕ) (t a : Taken) → t.registers < held_registers → Sets n p t a →
-    Sets (max n 1) p t (most_taken (with_number t) a)
-sets_signed n p t a less x =
-    let c = x.registers in
-    let u = x.words in
-    subst (λ t'. Sets (max n 1) p t (most_taken t' a)) (sym (next_number t less))
-    (record { registers = omega (arith, c); words = omega (arith, u) })
 
 whole_takes : (t : Taken) (x : Spot) → Sets 0 0 t (reference_takes t (whole x))
 whole_takes t x = record { registers = omega arith; words = omega arith }
@@ -659,30 +563,42 @@ put_taken words s skip (p ∷ ps) h fits =
     let a = and_parts (is_skip skip) (s.puts && are_pairs s (p ∷ ps)) h in
     pairs_taken words s (p ∷ ps) (and_parts s.puts (are_pairs s (p ∷ ps)) a.1).1 fits
 
--- a field waits in a register at most
+target_reference : (s : Scope) (r : Y.Reference) → is_target s r ≡ true → is_reference (without_calls s) r ≡ true
+target_reference s (Y.Referring v Y.NotLocated part Y.NoNumber) h =
+    ap (λ b. b || is_given (without_calls s) (Y.Referring v Y.NotLocated part Y.NoNumber)) h
+target_reference s (Y.Referring v Y.NotLocated part (Y.NumberThen subscript Y.NoNumber)) h = h
+target_reference s (Y.Referring v Y.NotLocated part (Y.NumberThen first (Y.NumberThen second rest))) h = absurd (cc h)
+target_reference s (Y.Referring v (Y.LocatedBy p) part subscripts) h = absurd (cc h)
+
+-- what was read waits in a register
 get_items_taken :
-    (words : ℕ) (s : Scope) (is : List Y.GetItem) → are_get_items s is ≡ true →
-    Takes 0 (set_aside words) (get_items_take (set_aside words) is)
-get_items_taken words s [] h = takes_none (set_aside words)
-get_items_taken words s (Y.GetScalar r ∷ is) h =
-    let a = and_parts (is_variable s r) (are_get_items s is) h in
-    let x = scalar_takes s r (with_number (set_aside words)) (inl a.0) in
+    (words : ℕ) (s : Scope) (is : List Y.GetItem) → are_get_items s is ≡ true → get_items_need is ≤ held_registers →
+    Takes (get_items_need is) (set_aside words) (get_items_take (set_aside words) is)
+get_items_taken words s [] h fits = takes_none (set_aside words)
+get_items_taken words s (Y.GetScalar r ∷ is) h fits =
+    let a = and_parts (is_target s r) (are_get_items s is) h in
+    let known = target_reference s r a.0 in
+    let x = reference_taken (without_calls s) r (with_number (set_aside words)) known (omega (arith, fits)) in
     let more = x.registers in
     let same = x.words in
-    takes_either 0 0 (set_aside words) (reference_takes (with_number (set_aside words)) r)
-    (get_items_take (set_aside words) is)
-    (record { registers = omega (arith, more); words = omega (arith, same) }) (get_items_taken words s is a.1)
-get_items_taken words s (Y.GetAggregate r ∷ is) h = absurd (cc h)
+    let none = reference_unset (without_calls s) r (refl, refl) known in
+    takes_either (suc (reference_needs r)) (get_items_need is) (set_aside words)
+    (reference_takes (with_number (set_aside words)) r) (get_items_take (set_aside words) is)
+    (record { registers = omega (arith, more); words = omega (arith, same, none) })
+    (get_items_taken words s is a.1 (omega (arith, fits)))
+get_items_taken words s (Y.GetAggregate r ∷ is) h fits = absurd (cc h)
 
 get_taken :
-    (words : ℕ) (s : Scope) (ps : List Y.GetPair) → are_get_pairs s ps ≡ true →
-    Takes 0 (set_aside words) (get_takes (set_aside words) ps)
-get_taken words s [] h = takes_none (set_aside words)
-get_taken words s (p ∷ ps) h =
+    (words : ℕ) (s : Scope) (ps : List Y.GetPair) → are_get_pairs s ps ≡ true → get_needs ps ≤ held_registers →
+    Takes (get_needs ps) (set_aside words) (get_takes (set_aside words) ps)
+get_taken words s [] h fits = takes_none (set_aside words)
+get_taken words s (p ∷ ps) h fits =
     let by = is_list p.formats && not (has_text p.formats) in
     let a = and_parts (are_get_items s p.items && by) (are_get_pairs s ps) h in
-    takes_either 0 0 (set_aside words) (get_items_take (set_aside words) p.items) (get_takes (set_aside words) ps)
-    (get_items_taken words s p.items (and_parts (are_get_items s p.items) by a.0).0) (get_taken words s ps a.1)
+    takes_either (get_items_need p.items) (get_needs ps) (set_aside words)
+    (get_items_take (set_aside words) p.items) (get_takes (set_aside words) ps)
+    (get_items_taken words s p.items (and_parts (are_get_items s p.items) by a.0).0 (omega (arith, fits)))
+    (get_taken words s ps a.1 (omega (arith, fits)))
 
 -- two words and a name
 allocation_taken :
@@ -796,8 +712,8 @@ mutual
   statement_taken words s valued labels (Y.Get skip pairs line) h fits =
       let a = and_parts (is_line line) (is_get s skip pairs) h in
       let b = and_parts (is_skip skip) ((s.puts && s.reads) && are_get_pairs s pairs) a.1 in
-      sets_no_words 0 (set_aside words) (get_takes (set_aside words) pairs)
-      (get_taken words s pairs (and_parts (s.puts && s.reads) (are_get_pairs s pairs) b.1).1)
+      sets_no_words (get_needs pairs) (set_aside words) (get_takes (set_aside words) pairs)
+      (get_taken words s pairs (and_parts (s.puts && s.reads) (are_get_pairs s pairs) b.1).1 fits)
   statement_taken words s valued labels (Y.Put skip pairs line) h fits =
       sets_no_words (put_needs pairs) (set_aside words) (put_takes (set_aside words) pairs)
       (put_taken words s skip pairs (and_parts (is_line line) (is_put s skip pairs) h).1 fits)

@@ -12,7 +12,7 @@ use Rattle.number_runs.specs.Numbers.{reference_needs, reference_sets, test_need
 use Rattle.number_runs.specs.Numbers.{without_given, is_area_known, is_automatic, is_based_variable, is_pointer_in}
 use Rattle.number_runs.specs.Numbers.{spot_of, without_located}
 use Rattle.number_runs.specs.Narrow.{has_precision, is_bit, is_text_type}
-use Rattle.number_runs.specs.Gets.{is_get}
+use Rattle.number_runs.specs.Gets.{get_needs, is_get}
 use Rattle.number_runs.specs.Puts.{is_put, put_needs}
 
 -- a line fits a register
@@ -138,6 +138,7 @@ abbrev mutual
   statement_needs (Y.CallProcedure call line) = call_needs call
   statement_needs (Y.ReturnValue type source line) = stored_needs source
   statement_needs (Y.Put skip pairs line) = put_needs pairs
+  statement_needs (Y.Get skip pairs line) = get_needs pairs
   statement_needs _ = 0
 
   pub statements_need : Y.Stmts → ℕ
