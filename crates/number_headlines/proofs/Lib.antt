@@ -13,6 +13,10 @@ pub mod FullWords
 pub mod CalledBlocks
 pub mod Entered
 pub mod Full
+pub mod NestedJumps
+pub mod Landings
+pub mod CalledLandings
+pub mod MainLandings
 pub mod Deciding
 pub mod ListBounds
 pub mod ListPlaces

@@ -2,7 +2,7 @@
 -- entered one level less deep do.
 use Rattle.std.proofs.Common.{◌≡◌, ℕ, zero, suc, ◌+◌, ◌*◌, ◌^◌, ◌<◌, ◌≤◌, List, ◌++◌, length, Bool, true, false, refl}
 use Rattle.std.proofs.Common.{sym, ap, subst, arith}
-use Rattle.std.specs.Prelude.{nat_le, nat_lt, Option}
+use Rattle.std.specs.Prelude.{nat_le, nat_lt, not, Option}
 use Rattle.std.proofs.lemmas.Bool.{le-leb, leb-true}
 use Rattle.pli_language.specs.declared.condition.Condition.TheVariants as C
 use Rattle.pli_typing.specs.TypedTree as Y
@@ -45,10 +45,12 @@ use Rattle.number_headlines.proofs.Deciding.{by_decision, entry_low}
 use Rattle.number_headlines.proofs.Inner.{Inner, inner_is}
 use Rattle.number_headlines.proofs.ListPlaces.{function_taking, procedure_taking}
 use Rattle.number_headlines.proofs.Mains.{Main, most_for}
-use Rattle.number_headlines.proofs.Running.{EachBody, EachGiven, IsEntered, IsRunning, Running, around_for}
+use Rattle.number_headlines.proofs.Landings.{EachBody, no_landings}
+use Rattle.number_headlines.proofs.Running.{EachGiven, IsEntered, IsRunning, Running, around_for}
 use Rattle.number_headlines.proofs.Running.{block_of_run, told_run, told_running}
 use Rattle.number_headlines.proofs.Based.{tabled_at}
 use Rattle.number_headlines.proofs.Telling.{serial_given}
+use Rattle.number_headlines.specs.Jumps.{has_jumps, labels_if}
 use Rattle.number_headlines.specs.Programs.{scope_of}
 use Rattle.std.proofs.lemmas.Bool.Decides.{nat_tests}
 use Rattle.list_calls.specs.Lists.{Passing}
@@ -96,15 +98,15 @@ arrived h i t is fits p numbers ys o come =
 given_value_by :
     MarkedOnce → {program : Y.Program} (m : Main program) (input : List ℕ) (acts : ℕ) (valued : Bool) (more b : ℕ)
     (a : Running) → acts + 1 < 2 ^ 64 → IsRunning m input acts valued (suc more) a (suc b) →
-    EachBody m input acts more → (labels : List Label) (line level number need : ℕ) {ns : List ℕ} →
-    Inner m a.head ns true level number → (t : Site') →
+    EachBody m input acts more → not (has_jumps program m.called) ≡ true → (labels : List Label)
+    (line level number need : ℕ) {ns : List ℕ} → Inner m a.head ns true level number → (t : Site') →
     IsSite (block_of_run program input acts valued (suc more) a) ns t →
     AreStored (block_of_run program input acts valued (suc more) a).first t.ways →
     EachGives (setting_around t.words (block_of_run program input acts valued (suc more) a) labels line
     (most_for program)) need t.layer t.others t.words (t.words + 6 * length t.ways) t.layer.waits t.ways →
     L.Does (setting_around t.words (block_of_run program input acts valued (suc more) a) labels line
     (most_for program)) need (given_number level number t.ways)
-given_value_by once {program} m input acts valued more b a few h each labels line level number need {ns} i t site
+given_value_by once {program} m input acts valued more b a few h each none labels line level number need {ns} i t site
     stored give =
     let k = block_of_run program input acts valued (suc more) a in
     let z = setting_around t.words k labels line (most_for program) in
@@ -156,7 +158,8 @@ given_value_by once {program} m input acts valued more b a few h each labels lin
       come = come;
       coded = coded;
       begun = b';
-    }))))
+    }))
+    (no_landings m (listed_at i more k (record t { call = call }) p numbers ys) (ap labels_if i.is) none)))
     (λ over.
     beside_function_ends z u need more is (record { shallow = shallow; limit = fits }) give
     (λ call p numbers ys o come.
@@ -171,8 +174,8 @@ given_value_by once {program} m input acts valued more b a few h each labels lin
 given_call_by :
     MarkedOnce → {program : Y.Program} (m : Main program) (input : List ℕ) (acts : ℕ) (valued : Bool) (more b : ℕ)
     (a : Running) → acts + 1 < 2 ^ 64 → IsRunning m input acts valued (suc more) a (suc b) →
-    EachBody m input acts more → (labels : List Label) (level number line index need : ℕ) {ns : List ℕ} →
-    Inner m a.head ns false level number → (t : Site') →
+    EachBody m input acts more → not (has_jumps program m.called) ≡ true → (labels : List Label)
+    (level number line index need : ℕ) {ns : List ℕ} → Inner m a.head ns false level number → (t : Site') →
     IsSite (block_of_run program input acts valued (suc more) a) ns t →
     AreStored (block_of_run program input acts valued (suc more) a).first t.ways → line < 2 ^ 31 →
     need ≤ (block_of_run program input acts valued (suc more) a).registers →
@@ -182,8 +185,8 @@ given_call_by :
     (most_for program)) need t.layer t.others t.words (t.words + 6 * length t.ways) t.layer.waits t.ways →
     DoesWith t.words (block_of_run program input acts valued (suc more) a) labels
     (given_statement level number line t.ways) index left_over
-given_call_by once {program} m input acts valued more b a few h each labels level number line index need {ns} i t0
-    site0 stored less room l give =
+given_call_by once {program} m input acts valued more b a few h each none labels level number line index need {ns} i
+    t0 site0 stored less room l give =
     let k = block_of_run program input acts valued (suc more) a in
     let z = setting_around t0.words k labels line (most_for program) in
     let u0 = listed_in i more k t0 in
@@ -253,7 +256,8 @@ given_call_by once {program} m input acts valued more b a few h each labels leve
       come = come;
       coded = is.callee.coded;
       begun = b';
-    }))))
+    }))
+    (no_landings m (listed_at i more k t p numbers ys) (ap labels_if i.is) none)))
     (λ over.
     beside_call_ends k u labels line index left_over need (most_for program) more is
     (record { shallow = shallow; limit = fits }) give
@@ -332,7 +336,7 @@ knows_given once {program} m input acts valued more (suc b) a few e each gives =
       functions = λ words waits labels line level n need ways some stored includes free room is give.
           let f = inner_is m a.head (length ways) true level n is in
           let many = f.many in
-          given_value_by once m input acts valued more b (told_run a waits φ φs) few (told_running h waits) each
+          given_value_by once m input acts valued more b (told_run a waits φ φs) few (told_running h waits) each gives
           labels line level n need f.inner (site words waits ways)
           (record {
             newest = refl;
@@ -345,7 +349,7 @@ knows_given once {program} m input acts valued more (suc b) a few e each gives =
       procedures = λ words waits labels level n line index need ways some stored includes free room is less fits l give.
           let f = inner_is m a.head (length ways) false level n is in
           let many = f.many in
-          given_call_by once m input acts valued more b (told_run a waits φ φs) few (told_running h waits) each
+          given_call_by once m input acts valued more b (told_run a waits φ φs) few (told_running h waits) each gives
           labels level n line index need f.inner (site words waits ways)
           (record {
             newest = refl;

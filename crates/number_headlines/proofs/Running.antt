@@ -30,7 +30,7 @@ use Rattle.program_places.specs.Placed.{Placed}
 use Rattle.program_places.specs.Programs.{code_for, entry_for, environment_for, links_for, procedure_for}
 use Rattle.program_runs.specs.Calls.{Callee, begun_at, left_over}
 use Rattle.program_runs.specs.Procedures.{Procedure, block_of, layer_for}
-use Rattle.program_runs.specs.Statements.{Block, EachDoes, IsAmong, IsBegun, with_texts}
+use Rattle.program_runs.specs.Statements.{Block, IsAmong, IsBegun, Outer, with_texts}
 use Rattle.program_runs.proofs.Waiting.{begun_waits}
 use Rattle.expression_runs.specs.Variables.{IsNumber, Spot}
 use Rattle.text_runs.proofs.Waiting.{number_waits}
@@ -81,7 +81,8 @@ with_entries texts k = record k { first = with_texts (texts k.first.control.entr
 
 -- with what it is entered, the layer with which it begins, the indices of its call, of its first statement and of its
 -- end, the point of its call, with what waits in registers, and the point where its variables have been made; and what
--- is known of the layers at its first statement: as they are, or the newest with what waits in words of its frame
+-- is known of the layers at its first statement: as they are, or the newest with what waits in words of its frame; and
+-- the blocks further out to which control may leave it
 pub record Running : Type 0 where
   pub head : Y.BlockHead
   pub body : Y.Stmts
@@ -95,6 +96,7 @@ pub record Running : Type 0 where
   pub made : Point
   pub layers : List Layer → List Layer
   pub texts : List S.Entry → List S.Entry
+  pub outers : List Outer
 
 -- blocks may be entered so many deep inside it
 abbrev pub around_for : Y.Program → (more : ℕ) → Around
@@ -121,7 +123,7 @@ block_of_run program input acts valued more a =
       environment = environment_for program a.head;
       around = at_line (around_for program more) a.head.line;
       registers = (procedure_for program a.head a.body).saved;
-      outers = [];
+      outers = a.outers;
     }))
 
 -- one without a parameter
@@ -140,6 +142,7 @@ run_of valued w c index p numbers =
       made = c.made (begun_at w c p numbers);
       layers = λ ls. ls;
       texts = λ es. es;
+      outers = [];
     }
 
 -- ---- what is known there
@@ -240,13 +243,7 @@ pub record IsEntered {program : Y.Program} (m : Main program) (input : List ℕ)
         (x : Spot) → is_area_known (scope_of program m.called a.head a.body) x ≡ true →
         HasArea (block_of_run program input acts valued more a) x
 
--- the statements of each block that may be entered so many deep do what they mean
-abbrev pub EachBody : {program : Y.Program} → Main program → (input : List ℕ) → (acts more : ℕ) → Type 0
-EachBody {program} m input acts more =
-    (valued : Bool) (a : Running) (blocks : ℕ) → IsEntered m input acts valued more a blocks →
-    EachDoes (block_of_run program input acts valued more a) (labels_in a.body ++ []) a.body a.index left_over
-
--- and so do the calls with arguments in a block
+-- the calls with arguments in a block do what they mean
 abbrev pub EachGiven : {program : Y.Program} → Main program → (input : List ℕ) → (acts : ℕ) → (valued : Bool) →
     (more : ℕ) → Running → Layer → List Layer → Type 0
 EachGiven {program} m input acts valued more a φ φs =

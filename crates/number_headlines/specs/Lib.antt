@@ -1,3 +1,4 @@
+pub mod Jumps
 pub mod Programs
 pub mod Headlines
 pub mod Rows

@@ -14,6 +14,7 @@ use Rattle.number_runs.specs.Numbers.{Scope, has_none, is_fixed, is_parameter, i
 use Rattle.number_runs.specs.Statements.{are_statements, statements_need, statements_set}
 use Rattle.number_runs.specs.Areas.{held_bytes}
 use Rattle.number_runs.specs.Variables.{are_any, are_known, are_plain, bytes_of}
+use Rattle.number_headlines.specs.Jumps.{has_jumps, is_jumped_to, is_label_around, jumps_out}
 use Rattle.pli_headline.specs.Headline.{parts}
 
 -- ---- variables
@@ -160,8 +161,9 @@ pointers_of head =
 abbrev pub least_located : ℕ
 least_located = 2
 
--- a block may name its own variables and parameters, and the variables of the blocks around it, and call these, with
--- arguments
+-- a block may name its own variables and parameters, and the variables of the blocks around it, call these, with
+-- arguments where nothing that is called jumps out, and jump to labels of the blocks around it; it has no texts if what
+-- it calls may jump to its own
 abbrev pub scope_of : Y.Program → List ℕ → Y.BlockHead → Y.Stmts → Scope
 scope_of program ns head body =
     record {
@@ -171,7 +173,7 @@ scope_of program ns head body =
       receivers = receivers_of program head;
       is_function = is_callable program ns head 0 true;
       is_procedure = is_callable program ns head 0 false;
-      gives = true;
+      gives = not (has_jumps program ns);
       is_given_function = λ count. is_callable program ns head count true;
       is_given_procedure = λ count. is_callable program ns head count false;
       locates = nat_le least_located (statements_set body);
@@ -181,10 +183,10 @@ scope_of program ns head body =
       overflows = true;
       divides = true;
       narrows = true;
-      texts = true;
+      texts = not (is_jumped_to program ns head.level head.number);
       elements = true;
       own = true;
-      is_outer = λ level label. false;
+      is_outer = λ level label. is_label_around program ns head level label;
       signals = λ c. true;
       codes = false;
     }
@@ -226,6 +228,15 @@ closed_of program (suc rounds) ns = closed_of program rounds (kept_of program ns
 abbrev pub callable_ones : Y.Program → List ℕ
 callable_ones program = closed_of program (length program.procedures) (numbers_of program.procedures)
 
+-- those that have no GOTO out of their blocks
+abbrev pub staying_of : List Y.Procedure → List Y.Procedure
+staying_of [] = []
+staying_of (p ∷ ps) = if jumps_out p then staying_of ps else p ∷ staying_of ps
+
+-- those of them that call only one another
+abbrev pub staying_ones : Y.Program → List ℕ
+staying_ones program = closed_of program (length program.procedures) (numbers_of (staying_of program.procedures))
+
 -- the variables of the main procedure, areas among them
 abbrev pub are_held : List Y.DeclaredVariable → Bool
 are_held ds = are_any ds && nat_le (held_bytes parts ds) most_bytes
@@ -239,10 +250,10 @@ is_main program called p =
     && (is_body (scope_of program called (head_of p.block) (body_of p.block)) false (body_of p.block)
     && are_inner program called called)))
 
--- the first one is the main procedure; what isn't called may be any
+-- the first one is the main procedure, which calls none that jumps out, or any; what isn't called may be any
 abbrev pub has_main : Y.Program → List Y.Procedure → Bool
 has_main program [] = false
-has_main program (p ∷ ps) = is_main program (callable_ones program) p
+has_main program (p ∷ ps) = is_main program (staying_ones program) p || is_main program (callable_ones program) p
 
 abbrev pub is_number_program : Y.Program → Bool
 is_number_program program = are_all_known program.variables && has_main program program.procedures
