@@ -44,3 +44,4 @@ pub mod PowerRows
 pub mod InitialRows
 pub mod EuclidRows
 pub mod LentRows
+pub mod SearchRows

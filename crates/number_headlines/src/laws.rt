@@ -16,6 +16,7 @@ ghost use Rattle.number_headlines.specs.NestRows.{NestKept};
 ghost use Rattle.number_headlines.specs.PowerRows.{PowerKept};
 ghost use Rattle.number_headlines.specs.PutRows.{SquaresKept};
 ghost use Rattle.number_headlines.specs.Rows.{TotalKept};
+ghost use Rattle.number_headlines.specs.SearchRows.{SearchKept};
 ghost use Rattle.number_headlines.specs.SumRows.{SumKept};
 ghost use Rattle.number_headlines.specs.TextRows.{WordKept};
 
@@ -149,6 +150,14 @@ pub fn euclid_kept()
 /// A worked row with both: variables that INITIAL gave values are passed by reference.
 pub fn lent_kept()
     ensures { LentKept }
+{
+    number_headlines_kept();
+}
+
+/// A worked row with jumps: a procedure that calls itself, and in it a function, which leaves all of them for a label of
+/// the main procedure.
+pub fn search_kept()
+    ensures { SearchKept }
 {
     number_headlines_kept();
 }
