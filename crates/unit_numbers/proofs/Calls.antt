@@ -54,7 +54,7 @@ use Rattle.unit_numbers.proofs.Homes.{Home, IsHome'}
 use Rattle.unit_numbers.proofs.Inner.{Inner, inner_is}
 use Rattle.unit_numbers.proofs.Mains.{Main, most_for, run_for}
 use Rattle.unit_numbers.proofs.Named.{Moment, are_made, bare_block, entered_at, inner_set}
-use Rattle.unit_numbers.proofs.NestedJumps.{nested_jump_call_does, nested_jump_function_does}
+use Rattle.number_headlines.proofs.NestedJumps.{nested_jump_call_does, nested_jump_function_does}
 use Rattle.unit_numbers.proofs.Raised.{around_for, entry_low}
 use Rattle.unit_numbers.proofs.Routines.{error_routines}
 use Rattle.unit_numbers.proofs.Scenes.{EachBody, IsAt, Part, Rises, block_of, scope_of}

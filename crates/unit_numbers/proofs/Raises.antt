@@ -52,7 +52,8 @@ use Rattle.unit_numbers.proofs.Divides.{deep_divide_ends, divide_returns}
 use Rattle.unit_numbers.proofs.Established.{InForce, Newest, in_force, list_placed, none_system}
 use Rattle.unit_numbers.proofs.Homes.{Home, IsHome', home_block}
 use Rattle.unit_numbers.proofs.Mains.{Main, block_for, level_of, list_of, main_begun, main_layer, most_for}
-use Rattle.unit_numbers.proofs.Outer.{main_saves, made_stacks}
+use Rattle.number_headlines.proofs.CalledLandings.{made_stacks}
+use Rattle.unit_numbers.proofs.Outer.{main_saves}
 use Rattle.unit_numbers.proofs.Past.{past_like}
 use Rattle.unit_numbers.proofs.Puts.{settled_writes}
 use Rattle.unit_numbers.proofs.Raised.{Case, part_of, raise_setting, unit_at, unit_entered, unit_raised}
