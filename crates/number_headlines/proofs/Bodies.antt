@@ -487,4 +487,4 @@ each_body once m input acts few (suc more) valued a blocks h lands =
     (λ layers texts own is there named.
     knows_calls once m input acts valued more blocks (record a { layers = layers; texts = texts })
     few is there (each_body once m input acts few more) own named)
-    (knows_given once m input acts valued more blocks a few h (each_body once m input acts few more))
+    (knows_given once m input acts valued more blocks a few h lands (each_body once m input acts few more))

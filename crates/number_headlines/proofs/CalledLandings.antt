@@ -297,19 +297,20 @@ same_there true {program} m {input} {acts} {valued} {more} {a = a} {p = p} {numb
 
 -- ---- the calling block, as one further out
 
--- where a block begins that has it right behind it, with these labels
-pub own_landing :
+-- where a block begins that has it right behind it, with these labels, and with what its words tell then
+own_landing :
     {program : Y.Program} (m : Main program) {input : List ℕ} {acts : ℕ} {valued : Bool} {more blocks : ℕ}
     {a : Running} {p : Point} {numbers : ℕ → ℕ} (o : Moment m input acts valued more a blocks p numbers)
-    (labels : List Label) → Includes (labels_in a.body) labels → (label : Label) →
-    is_among label (labels_in a.body) ≡ true → IsTarget program a → (r : Running) →
-    r.outers ≡ as_outer (block_of_run program input acts valued more a) labels ∷ a.outers →
+    (layers : List Layer → List Layer) (labels : List Label) → Includes (labels_in a.body) labels → (label : Label) →
+    is_among label (labels_in a.body) ≡ true → IsTarget program (record a { layers = layers }) → (r : Running) →
+    r.outers ≡ as_outer (block_of_run program input acts valued more (record a { layers = layers })) labels ∷ a.outers →
     block_around (environment_for program r.head) a.head.level ≡ a.head.number →
     ancestor_at (acted r.head.line r.made).state a.head.level
     ≡ ancestor_at (block_of_run program input acts valued more a).first.state a.head.level →
     IsLanding program r a.head.level label
-own_landing {program} m {input} {acts} {valued} {more} {a = a} o labels includes label among t r outers block same =
-    let k = block_of_run program input acts valued more a in
+own_landing {program} m {input} {acts} {valued} {more} {a = a} o layers labels includes label among t r outers block
+    same =
+    let k = block_of_run program input acts valued more (record a { layers = layers }) in
     let h = o.running in
     let there = label_of (links_for program) (linked_code (code_for program)) a.index (environment_for program a.head)
     none_taken a.body h.placed label among in
@@ -336,7 +337,7 @@ own_landing {program} m {input} {acts} {valued} {more} {a = a} o labels includes
     }
 
 -- one further out than the calling block is so of what is called, too
-pub outer_landing :
+outer_landing :
     {program : Y.Program} {a : Running} {level : ℕ} {label : Label} → IsLanding program a level label → (r : Running) →
     (first : Outer) → r.outers ≡ first ∷ a.outers →
     block_around (environment_for program a.head) level ≡ block_around (environment_for program r.head) level →
@@ -366,24 +367,27 @@ outer_landing {program} {a} {level} z r first outers alike same =
 -- each label around what is called stands in the calling block, or further out
 pub landing_by :
     {program : Y.Program} (m : Main program) {input : List ℕ} {acts : ℕ} {valued : Bool} {more blocks : ℕ}
-    {a : Running} {p : Point} {numbers : ℕ → ℕ} (o : Moment m input acts valued more a blocks p numbers) →
-    HasLandings m a → (labels : List Label) →
+    {a : Running} {p : Point} {numbers : ℕ → ℕ} (o : Moment m input acts valued more a blocks p numbers)
+    (layers : List Layer → List Layer) → HasLandings m a →
+    (is_jumped_to program m.called a.head.level a.head.number ≡ true → IsTarget program (record a { layers = layers })) →
+    (labels : List Label) →
     (is_jumped_to program m.called a.head.level a.head.number ≡ true → Includes (labels_in a.body) labels) →
     {ns : List ℕ} {v : Bool} {level number : ℕ} (i : Inner m a.head ns v level number) (r : Running) →
-    r.head ≡ i.head → r.outers ≡ as_outer (block_of_run program input acts valued more a) labels ∷ a.outers →
+    r.head ≡ i.head →
+    r.outers ≡ as_outer (block_of_run program input acts valued more (record a { layers = layers })) labels ∷ a.outers →
     ((n : ℕ) → n ≤ level →
     ancestor_at (acted r.head.line r.made).state n
     ≡ ancestor_at (block_of_run program input acts valued more a).first.state n) →
     (n : ℕ) (label : Label) → is_label_around program m.called r.head n label ≡ true → IsLanding program r n label
-landing_by {program} m {input} {acts} {valued} {more} {a = a} o lands labels includes {level = level} i r head outers
-    same n label out =
+landing_by {program} m {input} {acts} {valued} {more} {a = a} o layers lands target labels includes {level = level} i r
+    head outers same n label out =
     by (n == a.head.level) refl
   where
     e : Environment
     e = environment_for program r.head
 
     k : Block
-    k = block_of_run program input acts valued more a
+    k = block_of_run program input acts valued more (record a { layers = layers })
 
     jumped : Bool
     jumped = is_jumped_to program m.called n (block_around e n)
@@ -419,7 +423,7 @@ landing_by {program} m {input} {acts} {valued} {more} {a = a} o lands labels inc
         let named = subst (λ ls. is_among label ls ≡ true)
         (ap (λ j. labels_of program j) block ∙ lands.own) p1.1 in
         subst (λ j. IsLanding program r j label) (sym is)
-        (own_landing m o labels (includes jumps') label named (lands.target jumps') r outers
+        (own_landing m o layers labels (includes jumps') label named (target jumps') r outers
         (subst (λ j. block_around e j ≡ a.head.number) is block) (same a.head.level (subst (λ j. j ≤ level) is low)))
     by false e' =
         let apart = eqb-false n a.head.level e' in
@@ -452,8 +456,8 @@ called_landings {program} m {input} {acts} {valued} {more} {a = a} {p = p} {numb
     let r = with_outers os (entered_at i k call p numbers) in
     record {
       far = λ n label out.
-          landing_by m o lands labels includes i r refl refl (λ j low. same_there v m o i call pass b' j low) n label
-          out;
+          landing_by m o a.layers lands lands.target labels includes i r refl refl
+          (λ j low. same_there v m o i call pass b' j low) n label out;
       own = ap labels_if i.is;
       target = λ jumped. called_target m o i call os pass;
     }

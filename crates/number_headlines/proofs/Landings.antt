@@ -26,7 +26,7 @@ use Rattle.program_runs.specs.Starts.{image_parts}
 use Rattle.program_runs.specs.Statements.{EachDoes, Outer}
 use Rattle.begin_runs.proofs.FarGotos.{far_does}
 use Rattle.number_runs.specs.Knowledge.{Includes, KnowsJumps}
-use Rattle.number_headlines.specs.Jumps.{has_jumps, is_jumped_to, is_label_around, labels_of}
+use Rattle.number_headlines.specs.Jumps.{is_jumped_to, is_label_around, labels_of}
 use Rattle.number_headlines.specs.Programs.{scope_of}
 use Rattle.number_headlines.proofs.Mains.{Main}
 use Rattle.number_headlines.proofs.Running.{IsEntered, IsRunning, Running, block_of_run, told_run, waited_run}
@@ -128,30 +128,11 @@ own_included body label among =
     list_any-append (same_bytes label) (labels_in body) []
     ∙ or_left (is_among label (labels_in body)) false among
 
--- ---- where nothing that is called jumps out, there are none
-
-none_around :
-    (low jumps some among : Bool) → (low && ((jumps && some) && among)) ≡ true → jumps ≡ true
-none_around low jumps some among h =
-    (and_parts jumps some (and_parts (jumps && some) among (and_parts low ((jumps && some) && among) h).1).0).0
+-- ---- while limits of loops wait in words of its frame, and texts on their stack
 
 pub jumps_not : (q : Bool) → not q ≡ true → q ≡ true → ⊥
 jumps_not true h e = cc h
 jumps_not false h e = cc e
-
-pub no_landings :
-    {program : Y.Program} (m : Main program) (a : Running) → labels_of program a.head.number ≡ labels_in a.body →
-    not (has_jumps program m.called) ≡ true → HasLandings m a
-no_landings {program} m a own none =
-    record {
-      far = λ level label out.
-          absurd (jumps_not (has_jumps program m.called) none (none_around _ _ _ _ out));
-      own = own;
-      target = λ jumped.
-          absurd (jumps_not (has_jumps program m.called) none (and_parts (has_jumps program m.called) _ jumped).0);
-    }
-
--- ---- while limits of loops wait in words of its frame, and texts on their stack
 
 same_landing :
     {program : Y.Program} {a : Running} {level : ℕ} {label : Label} (layers : List Layer → List Layer)

@@ -14,9 +14,12 @@ pub mod CalledBlocks
 pub mod Entered
 pub mod Full
 pub mod NestedJumps
+pub mod ListHands
+pub mod ListJumps
 pub mod Landings
 pub mod CalledLandings
 pub mod MainLandings
+pub mod ListLandings
 pub mod Deciding
 pub mod ListBounds
 pub mod ListPlaces

@@ -35,14 +35,6 @@ abbrev mutual
 abbrev pub jumps_out : Y.Procedure → Bool
 jumps_out p = jump_where (λ n. nat_lt n (head_of p.block).level) (statements_of p.block)
 
-abbrev pub jumps_out_if : Option Y.Procedure → Bool
-jumps_out_if None = false
-jumps_out_if (Some p) = jumps_out p
-
--- one of these numbers finds one
-abbrev pub has_jumps : Y.Program → List ℕ → Bool
-has_jumps program ns = list_any (λ n. jumps_out_if (procedure_numbered n program.procedures)) ns
-
 -- one inside the block of a number and a level has a GOTO to a label of that
 abbrev pub jumps_to : Y.Program → (level block : ℕ) → Y.Procedure → Bool
 jumps_to program level block p =
@@ -57,8 +49,7 @@ jumps_to_if program level block (Some p) = jumps_to program level block p
 -- one of these numbers finds one that does: a text that waits in the block would be dropped
 abbrev pub is_jumped_to : Y.Program → List ℕ → (level block : ℕ) → Bool
 is_jumped_to program ns level block =
-    has_jumps program ns
-    && list_any (λ n. jumps_to_if program level block (procedure_numbered n program.procedures)) ns
+    list_any (λ n. jumps_to_if program level block (procedure_numbered n program.procedures)) ns
 
 -- ---- labels
 

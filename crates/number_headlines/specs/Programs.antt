@@ -14,7 +14,7 @@ use Rattle.number_runs.specs.Numbers.{Scope, has_none, is_fixed, is_parameter, i
 use Rattle.number_runs.specs.Statements.{are_statements, statements_need, statements_set}
 use Rattle.number_runs.specs.Areas.{held_bytes}
 use Rattle.number_runs.specs.Variables.{are_any, are_known, are_plain, bytes_of}
-use Rattle.number_headlines.specs.Jumps.{has_jumps, is_jumped_to, is_label_around, jumps_out}
+use Rattle.number_headlines.specs.Jumps.{is_jumped_to, is_label_around, jumps_out}
 use Rattle.pli_headline.specs.Headline.{parts}
 
 -- ---- variables
@@ -162,8 +162,7 @@ abbrev pub least_located : ℕ
 least_located = 2
 
 -- a block may name its own variables and parameters, and the variables of the blocks around it, call these, with
--- arguments where nothing that is called jumps out, and jump to labels of the blocks around it; it has no texts if what
--- it calls may jump to its own
+-- arguments, and jump to labels of the blocks around it; it has no texts if what it calls may jump to its own
 abbrev pub scope_of : Y.Program → List ℕ → Y.BlockHead → Y.Stmts → Scope
 scope_of program ns head body =
     record {
@@ -173,7 +172,7 @@ scope_of program ns head body =
       receivers = receivers_of program head;
       is_function = is_callable program ns head 0 true;
       is_procedure = is_callable program ns head 0 false;
-      gives = not (has_jumps program ns);
+      gives = true;
       is_given_function = λ count. is_callable program ns head count true;
       is_given_procedure = λ count. is_callable program ns head count false;
       locates = nat_le least_located (statements_set body);
