@@ -192,17 +192,16 @@ texts_of :
     (a : Running) (blocks : ℕ) → acts + 1 < 2 ^ 64 → (layers : List Layer → List Layer) →
     IsRunning m input acts valued more (record a { layers = layers }) blocks →
     HasLandings m (record a { layers = layers }) → EachCall m input acts valued more a blocks →
-    not (is_jumped_to program m.called a.head.level a.head.number) ≡ true →
     KnowsAroundTexts (scope_of program m.called a.head a.body)
     (block_of_run program input acts valued more (record a { layers = layers })) (labels_in a.body ++ [])
     (most_for program)
 unfolding unraised_of
-texts_of once {program} m input acts valued more a blocks few layers h lands calls none =
+texts_of once {program} m input acts valued more a blocks few layers h lands calls =
     let k = block_of_run program input acts valued more (record a { layers = layers }) in
     around_texts_end (scope_of program m.called a.head a.body) k (labels_in a.body ++ []) (most_for program)
     (unraised_of once m input acts valued more (record a { layers = layers }) blocks few h)
     (constants_known program k m.memory h.told refl)
-    (λ words set line entries level n is.
+    (λ none words set line entries level n is.
     (calls layers (λ es. entries ++ a.texts es) [] (waited_running h entries) (waited_landings entries none lands)
     (λ jumped. absurd (jumps_not (is_jumped_to program m.called a.head.level a.head.number) none jumped))).functions
     words set [] line level n (λ label among. among) is)
@@ -240,7 +239,7 @@ ready once {program} m input acts valued more a blocks few e lands calls given =
           based_known m input acts valued more a blocks few e (unraised_of once m input acts valued more a blocks few h)
           may;
       jumps = jumps_known m input acts valued more a blocks few h lands own;
-      texts = λ may. texts_of once m input acts valued more a blocks few a.layers h lands calls may;
+      texts = λ may. texts_of once m input acts valued more a blocks few a.layers h lands calls;
       signals = signals_of once m input acts valued more a blocks few h;
       puts = λ may. puts_of once m input acts valued more a blocks few h;
       loops = λ may. record {
@@ -261,7 +260,7 @@ ready once {program} m input acts valued more a blocks few e lands calls given =
             (told_landings waits φ φs h.free.newest lands) own;
         texts = λ waits may.
             texts_of once m input acts valued more a blocks few (λ ls. with_waits waits φ ∷ φs)
-            (told_running h waits) (told_landings waits φ φs h.free.newest lands) calls may;
+            (told_running h waits) (told_landings waits φ φs h.free.newest lands) calls;
         signals = λ waits.
             signals_of once m input acts valued more (told_run a waits φ φs) blocks few (told_running h waits);
         puts = λ waits may.

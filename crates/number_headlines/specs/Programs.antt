@@ -162,7 +162,7 @@ abbrev pub least_located : ℕ
 least_located = 2
 
 -- a block may name its own variables and parameters, and the variables of the blocks around it, call these, with
--- arguments, and jump to labels of the blocks around it; it has no texts if what it calls may jump to its own
+-- arguments, and jump to labels of the blocks around it; no text of it waits for a function if its own may be jumped to
 abbrev pub scope_of : Y.Program → List ℕ → Y.BlockHead → Y.Stmts → Scope
 scope_of program ns head body =
     record {
@@ -182,7 +182,8 @@ scope_of program ns head body =
       overflows = true;
       divides = true;
       narrows = true;
-      texts = not (is_jumped_to program ns head.level head.number);
+      texts = true;
+      waits = not (is_jumped_to program ns head.level head.number);
       elements = true;
       own = true;
       is_outer = λ level label. is_label_around program ns head level label;

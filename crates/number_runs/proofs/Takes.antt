@@ -45,6 +45,7 @@ use Rattle.number_runs.proofs.Counters.{IsCounting, counting_is, counting_of, st
 use Rattle.number_runs.proofs.Narrow.{narrow_with_is}
 use Rattle.number_runs.proofs.Unset.{number_unset, test_unset}
 use Rattle.number_runs.proofs.Variables.{behind_number, parameter_is, variable_is}
+use Rattle.number_runs.proofs.Waiting.{bare}
 
 -- as many registers more as are needed, at least, and no words
 pub record Takes (need : ℕ) (t taken : Taken) : Type 0 where
@@ -300,21 +301,21 @@ mutual
       (number_taken s left t a.0 (omega (arith, fits))) (number_taken s right (one_more t) a.1 (omega (arith, fits)))
   number_taken s (Y.NumberOfText x) t h fits =
       sets_no_words (text_needs x) t (text_takes t x)
-      (text_taken (without_given s) x t (refl, refl) (and_parts s.texts (is_text (without_given s) x) h).1 fits)
+      (text_taken (without_given s) x t (bare s) (and_parts s.texts (is_text (without_given s) x) h).1 fits)
   number_taken s (Y.NumberOfBit x) t h fits = test_taken s x t (and_parts s.narrows (is_test s x) h).1 fits
   number_taken s (Y.LengthOf x) t h fits =
       sets_no_words (text_needs x) t (text_takes t x)
-      (text_taken (without_given s) x t (refl, refl) (and_parts s.texts (is_text (without_given s) x) h).1 fits)
+      (text_taken (without_given s) x t (bare s) (and_parts s.texts (is_text (without_given s) x) h).1 fits)
   number_taken s (Y.IndexOf x y) t h fits =
       let g = without_given s in
       let a = and_parts (is_text g x) (is_text g y) (and_parts s.texts (is_text g x && is_text g y) h).1 in
-      two_texts_taken x y t (text_taken g x t (refl, refl) a.0 (omega (arith, fits)))
-      (text_taken g y t (refl, refl) a.1 (omega (arith, fits)))
+      two_texts_taken x y t (text_taken g x t (bare s) a.0 (omega (arith, fits)))
+      (text_taken g y t (bare s) a.1 (omega (arith, fits)))
   number_taken s (Y.VerifyOf x y) t h fits =
       let g = without_given s in
       let a = and_parts (is_text g x) (is_text g y) (and_parts s.texts (is_text g x && is_text g y) h).1 in
-      two_texts_taken x y t (text_taken g x t (refl, refl) a.0 (omega (arith, fits)))
-      (text_taken g y t (refl, refl) a.1 (omega (arith, fits)))
+      two_texts_taken x y t (text_taken g x t (bare s) a.0 (omega (arith, fits)))
+      (text_taken g y t (bare s) a.1 (omega (arith, fits)))
   number_taken s (Y.LowerBound r n) t h fits = absurd (cc h)
   number_taken s (Y.UpperBound r n) t h fits = absurd (cc h)
   number_taken s (Y.ElementsOf r n) t h fits = absurd (cc h)
@@ -416,13 +417,13 @@ mutual
   test_taken s (Y.BitFrom c) t h fits = absurd (cc h)
   test_taken s (Y.BitOfText x) t h fits =
       sets_no_words (text_needs x) t (text_takes t x)
-      (text_taken (without_given s) x t (refl, refl) (and_parts s.texts (is_text (without_given s) x) h).1 fits)
+      (text_taken (without_given s) x t (bare s) (and_parts s.texts (is_text (without_given s) x) h).1 fits)
   test_taken s (Y.TextsCompared comparison left right) t h fits =
       let g = without_given s in
       let both = is_text g left && is_text g right in
       let a = and_parts (is_text g left) (is_text g right) (and_parts s.texts both h).1 in
-      two_texts_taken left right t (text_taken g left t (refl, refl) a.0 (omega (arith, fits)))
-      (text_taken g right t (refl, refl) a.1 (omega (arith, fits)))
+      two_texts_taken left right t (text_taken g left t (bare s) a.0 (omega (arith, fits)))
+      (text_taken g right t (bare s) a.1 (omega (arith, fits)))
   test_taken s (Y.PointersCompared equal left right) t h fits = absurd (cc h)
   test_taken s (Y.OffsetsCompared equal left right) t h fits = absurd (cc h)
 
@@ -525,7 +526,7 @@ narrowed_taken words s target (Y.StoredText x) h fits =
     let c = and_parts s.texts (is_narrow_with s is_text_type target && is_text g x) h in
     let d = and_parts (is_narrow_with s is_text_type target) (is_text g x) c.1 in
     let a = narrow_taken s is_text_type target (set_aside words) d.0 in
-    let b = text_taken g x (set_aside words) (refl, refl) d.1 (omega (arith, fits)) in
+    let b = text_taken g x (set_aside words) (bare s) d.1 (omega (arith, fits)) in
     let p = b.registers in
     let q = a.registers in
     let u = a.words in
@@ -610,10 +611,11 @@ put_item_taken :
 put_item_taken words s (Y.PutValue (Y.NumberValue precision x)) h fits =
     takes_signed (number_needs x) (set_aside words) (number_takes (set_aside words) x) (omega arith)
     (takes_of (number_needs x) (number_sets x) (set_aside words) (number_takes (set_aside words) x)
-    (number_unset (without_calls s) x (refl, refl) h)
+    (number_unset (without_calls s) x (refl, refl, λ level n is. absurd (cc is)) h)
     (number_taken (without_calls s) x (set_aside words) h (omega (arith, fits))))
 put_item_taken words s (Y.PutValue (Y.TextValue x)) h fits =
-    text_taken (without_calls s) x (set_aside words) (refl, refl) (and_parts s.texts (is_text (without_calls s) x) h).1
+    text_taken (without_calls s) x (set_aside words) (refl, refl, λ level n is. absurd (cc is))
+    (and_parts s.texts (is_text (without_calls s) x) h).1
     (omega (arith, fits))
 put_item_taken words s (Y.PutValue (Y.BitValue x)) h fits = absurd (cc h)
 put_item_taken words s (Y.PutValue (Y.PointerValue x)) h fits = absurd (cc h)

@@ -44,8 +44,9 @@ pub record Scope : Type 0 where
   pub puts : Bool
   -- whether they may name scalars of fewer bits, and bits
   pub narrows : Bool
-  -- whether they may have texts
+  -- whether they may have texts, and whether functions may be called while these wait
   pub texts : Bool
+  pub waits : Bool
   -- whether expressions may raise FIXEDOVERFLOW, and ZERODIVIDE
   pub overflows : Bool
   pub divides : Bool
@@ -236,12 +237,15 @@ gives_lists s = s.gives && s.counts
 abbrev pub without_located : Scope → Scope
 without_located s = record s { locates = false }
 
--- while texts wait calls have no arguments, either
+-- while texts wait calls have no arguments, either, and there are none where functions may not be called then
 abbrev pub without_given : Scope → Scope
-without_given s = record s { gives = false; locates = false }
+without_given s =
+    record s { gives = false; locates = false; is_function = λ level number. s.waits && s.is_function level number }
 
 abbrev pub IsBare : Scope → Type 0
-IsBare s = (s.gives ≡ false) × (s.locates ≡ false)
+IsBare s =
+    (s.gives ≡ false) × (s.locates ≡ false)
+    × ((level number : ℕ) → s.is_function level number ≡ true → s.waits ≡ true)
 
 -- of FIXED BINARY
 abbrev pub is_precision : ℕ → Bool

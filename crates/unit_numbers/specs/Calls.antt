@@ -87,6 +87,7 @@ scope_in program ns all caller unit writes =
       divides = not (writes && (is_jumped_to caller unit all && has_unit C.ZeroDivide all));
       narrows = true;
       texts = false;
+      waits = false;
       elements = true;
       own = not unit;
       is_outer = λ level label.
