@@ -48,3 +48,4 @@ pub mod InitialRows
 pub mod EuclidRows
 pub mod LentRows
 pub mod SearchRows
+pub mod QuestRows

@@ -19,3 +19,4 @@ pub mod InitialRows
 pub mod EuclidRows
 pub mod LentRows
 pub mod SearchRows
+pub mod QuestRows

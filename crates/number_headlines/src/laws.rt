@@ -15,6 +15,7 @@ ghost use Rattle.number_headlines.specs.LentRows.{LentKept};
 ghost use Rattle.number_headlines.specs.NestRows.{NestKept};
 ghost use Rattle.number_headlines.specs.PowerRows.{PowerKept};
 ghost use Rattle.number_headlines.specs.PutRows.{SquaresKept};
+ghost use Rattle.number_headlines.specs.QuestRows.{QuestKept};
 ghost use Rattle.number_headlines.specs.Rows.{TotalKept};
 ghost use Rattle.number_headlines.specs.SearchRows.{SearchKept};
 ghost use Rattle.number_headlines.specs.SumRows.{SumKept};
@@ -158,6 +159,14 @@ pub fn lent_kept()
 /// the main procedure.
 pub fn search_kept()
     ensures { SearchKept }
+{
+    number_headlines_kept();
+}
+
+/// A worked row with jumps and arguments: a function that calls itself with a parameter, in a loop that counts, until it
+/// leaves all of these for a label.
+pub fn quest_kept()
+    ensures { QuestKept }
 {
     number_headlines_kept();
 }
