@@ -1,6 +1,6 @@
 -- The blocks further out of one that is called from a block of the class, without arguments: the calling block, with the
 -- labels that a jump may name there, and those around that.
-use Rattle.std.proofs.Common.{◌≡◌, ℕ, suc, ◌+◌, ◌<◌, ◌≤◌, List, [], ◌∷◌, ◌++◌, length, Option, None, Some, Bool, true, false}
+use Rattle.std.proofs.Common.{◌≡◌, ℕ, suc, ◌+◌, ◌<◌, ◌≤◌, List, [], ◌∷◌, length, Bool, true, false}
 use Rattle.std.proofs.Common.{refl, sym, ap, ◌∙◌, subst, arith}
 use Rattle.std.specs.Prelude.{◌&&◌, ◌==◌, drop, min, nat_lt}
 use Rattle.std.proofs.lemmas.Bool.{and_from, and_parts, eqb-false, eqb-true, lt-ltb, ltb-true}
@@ -8,7 +8,7 @@ use Rattle.pli_typing.specs.TypedTree as Y
 use Rattle.pli_meaning.specs.Control.{Label, is_among}
 use Rattle.pli_meaning.specs.DeclaredShapes.{variables_of_block}
 use Rattle.pli_meaning.specs.Executing.{labels_in}
-use Rattle.pli_meaning.specs.StorageState.{Activation, ancestor_at, height_of, newest_height, ancestor}
+use Rattle.pli_meaning.specs.StorageState.{ancestor_at, height_of, newest_height, ancestor}
 use Rattle.pli_coding.specs.Environments.{Environment, block_around, none_taken}
 use Rattle.pli_coding.specs.Frames.{MemoryParts, fixed_size, frame_bytes, frame_end, last_place, parameters_in}
 use Rattle.pli_coding.specs.Frames.{variable_place}
@@ -18,37 +18,33 @@ use Rattle.pli_coding.specs.Statements.{stmts_held}
 use Rattle.activation_relation.specs.Frames.{frame_under, upper_top}
 use Rattle.activation_relation.specs.Layers.{Layer, Point}
 use Rattle.block_runs.specs.Machines.{acted}
-use Rattle.program_places.specs.Programs.{code_for, environment_for, links_for, procedure_for}
+use Rattle.program_places.specs.Programs.{code_for, environment_for, links_for}
 use Rattle.program_places.proofs.Labels.{label_of}
-use Rattle.program_runs.specs.Calls.{Callee, begun_at}
+use Rattle.program_runs.specs.Calls.{begun_at}
 use Rattle.program_runs.specs.Procedures.{layer_for}
 use Rattle.program_runs.specs.Starts.{image_parts}
-use Rattle.program_runs.specs.Statements.{Block, IsAmong, IsBegun, Outer, as_outer}
+use Rattle.program_runs.specs.Statements.{Block, IsBegun, Outer, as_outer}
 use Rattle.program_runs.specs.Variables.{Declared}
 use Rattle.program_runs.proofs.NewestBlocks.{newest_at, own_ancestor}
 use Rattle.variable_runs.specs.Known.{IsKnown}
 use Rattle.variable_runs.specs.Lists.{all_made, behind_made, layer_behind}
-use Rattle.expression_runs.specs.Variables.{IsNumber, Spot}
+use Rattle.expression_runs.specs.Variables.{Spot}
 use Rattle.area_runs.specs.Allocations.{HasArea}
 use Rattle.argument_runs.specs.Parameters.{IsParameter}
-use Rattle.element_runs.specs.Arrays.{IsArray}
-use Rattle.scalar_runs.specs.Scalars.{IsScalar}
 use Rattle.jump_runs.proofs.Numbers.{leaving, number_leaving}
 use Rattle.list_calls.specs.Passed.{IsTelling}
-use Rattle.nested_calls.specs.Nested.{IsNested}
 use Rattle.nested_calls.proofs.NestedVariables.{function_over, procedure_over, same_ancestor}
 use Rattle.number_runs.specs.Knowledge.{Includes}
 use Rattle.number_runs.specs.Variables.{are_plain, bytes_of, is_declared, variable_bytes, words_in}
 use Rattle.number_runs.proofs.Declared.{makeable}
 use Rattle.number_runs.proofs.Words.{room_behind}
 use Rattle.number_headlines.specs.Jumps.{is_jumped_to, is_label_around, labels_if, labels_of}
-use Rattle.number_headlines.specs.Programs.{scope_of}
 use Rattle.number_headlines.proofs.CalledBlocks.{DontPass, Moment, are_made, begun_room, callee_in, entered_at, is_inside}
 use Rattle.number_headlines.proofs.Inner.{Inner}
 use Rattle.number_headlines.proofs.Landings.{HasLandings, IsLanding, IsTarget}
-use Rattle.number_headlines.proofs.Mains.{Main, result_of, surroundings_for}
+use Rattle.number_headlines.proofs.Mains.{Main, surroundings_for}
 use Rattle.number_headlines.proofs.Places.{alike_at}
-use Rattle.number_headlines.proofs.Running.{IsEntered, IsPointing, IsRunning, Running, block_of_run}
+use Rattle.number_headlines.proofs.Running.{IsEntered, Running, block_of_run}
 
 -- ---- what is known of a block is known of it with others further out
 

@@ -68,7 +68,7 @@ use Rattle.number_headlines.proofs.Mains.{spare, start_for, surroundings_for}
 use Rattle.number_headlines.proofs.Loops.{after_waits, after_words}
 use Rattle.number_headlines.proofs.Places.{around_is}
 use Rattle.number_headlines.proofs.Pointers.{pointers_own}
-use Rattle.number_headlines.proofs.Running.{IsEntered, IsPointing, Running, run_of, table_later}
+use Rattle.number_headlines.proofs.Running.{IsEntered, IsPointing, table_later}
 use Rattle.number_headlines.proofs.Tables.{has_start, has_table, held_block}
 
 -- ---- the main procedure as the first block that runs

@@ -1,16 +1,16 @@
 -- A call with a list of arguments comes behind it, or hands on a jump of what is called: to a label of the calling block,
 -- which forgets the words of the list, or of one further out.
-use Rattle.std.proofs.Common.{◌≡◌, ℕ, ◌+◌, ◌<◌, ◌≤◌, List, [], ◌∷◌, ◌++◌, Option, None, Some, Bool, false, true, refl, sym}
-use Rattle.std.proofs.Common.{ap, ◌∙◌, subst, arith}
+use Rattle.std.proofs.Common.{◌≡◌, ℕ, ◌+◌, ◌<◌, ◌≤◌, List, [], ◌∷◌, ◌++◌, Option, None, Some, false, true, refl, sym}
+use Rattle.std.proofs.Common.{ap, subst, arith}
 use Rattle.std.proofs.lemmas.List.{append_assoc}
 use Rattle.pli_language.specs.declared.condition.Condition.TheVariants as C
 use Rattle.pli_typing.specs.TypedTree as Y
-use Rattle.pli_meaning.specs.Control.{Label, Meaning, act, flow_on, left, ◌>>◌}
+use Rattle.pli_meaning.specs.Control.{Label, Meaning, act, left, ◌>>◌}
 use Rattle.pli_meaning.specs.Executing as M
 use Rattle.pli_meaning.specs.Executing.{labels_in}
 use Rattle.pli_meaning.specs.Raising.{Around, at_line}
 use Rattle.pli_meaning.specs.StorageState.{State, force, newest_ended}
-use Rattle.pli_meaning.specs.World.{World, counted}
+use Rattle.pli_meaning.specs.World.{counted}
 use Rattle.pli_coding.specs.Allocating.{act_code}
 use Rattle.pli_coding.specs.Assembly.{Mark, ReturnPlace, size_of}
 use Rattle.pli_coding.specs.Environments.{none_taken}
@@ -25,7 +25,7 @@ use Rattle.run_steps.proofs.Jumps.{back_of, front_of}
 use Rattle.run_steps.proofs.Linking.{size_append}
 use Rattle.run_steps.specs.Owing.{owing}
 use Rattle.run_steps.proofs.Owing.{comes_owing, owing_closed}
-use Rattle.run_steps.specs.Reach.{Comes, Family, before, cost}
+use Rattle.run_steps.specs.Reach.{Comes, Family, cost}
 use Rattle.run_steps.proofs.Reach.{before_closed, comes_on, onward}
 use Rattle.block_runs.specs.Bodies.{AtEnd, Function, place_in}
 use Rattle.block_runs.specs.Endings.{ending_code}
@@ -37,7 +37,7 @@ use Rattle.block_runs.proofs.EmptyCalls.{comes_left, left_aims, left_closed}
 use Rattle.block_runs.proofs.PointActs.{act_comes}
 use Rattle.program_runs.specs.Calls.{left_over}
 use Rattle.program_runs.specs.Procedures.{block_of}
-use Rattle.program_runs.specs.Statements.{Block, EachDoes, IsAmong, IsBegun, JumpsOut, Outer, ReturnsOut, as_outer}
+use Rattle.program_runs.specs.Statements.{Block, EachDoes, IsAmong, IsBegun, Outer, ReturnsOut, as_outer}
 use Rattle.program_runs.specs.Statements.{statement_aims}
 use Rattle.program_runs.proofs.JumpsOut.{outs_repaid, outs_since}
 use Rattle.program_runs.proofs.Lists.{list_does}
@@ -61,7 +61,7 @@ use Rattle.jump_runs.proofs.FunctionLists.{each_ends, system_ends}
 use Rattle.list_calls.specs.ListCalls.{Listed, called_with}
 use Rattle.list_calls.specs.ListFunctions.{IsTakingFunction}
 use Rattle.list_calls.specs.Lists.{Passing}
-use Rattle.list_calls.specs.Taking.{IsTaking, ListCall, beginning_of, body_index, bound_point, bound_waits, called_of}
+use Rattle.list_calls.specs.Taking.{IsTaking, ListCall, beginning_of, body_index, bound_point, bound_waits}
 use Rattle.list_calls.specs.Taking.{copies_code, entry_of, given_point, giving_of, list_block, list_of, listed_layer}
 use Rattle.list_calls.specs.Taking.{listing_of, taking_code}
 use Rattle.list_calls.proofs.ListBlocks.{Entering, all_come, all_known, behind_copies, body_means, copies_linked}

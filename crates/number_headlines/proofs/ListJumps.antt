@@ -1,5 +1,5 @@
 -- Calls with a list of arguments, statements and in expressions, of what may jump out.
-use Rattle.std.proofs.Common.{◌≡◌, ℕ, ◌+◌, ◌≤◌, List, [], ◌++◌, None, Some, refl, ap, arith}
+use Rattle.std.proofs.Common.{ℕ, ◌+◌, List, [], ◌++◌, None, Some, refl, ap, arith}
 use Rattle.pli_language.specs.declared.condition.Condition.TheVariants as C
 use Rattle.pli_meaning.specs.Control.{Label, give}
 use Rattle.pli_meaning.specs.Executing as M

@@ -1,18 +1,17 @@
 -- The blocks further out of one that is called from a block of the class with a list of arguments: the calling block,
 -- whose words tell the list, and those around that.
-use Rattle.std.proofs.Common.{◌≡◌, ℕ, suc, ◌+◌, ◌*◌, ◌≤◌, List, [], ◌∷◌, length, Bool, true, refl, sym, ap, ◌∙◌, subst, arith}
+use Rattle.std.proofs.Common.{◌≡◌, ℕ, suc, ◌+◌, ◌*◌, ◌≤◌, List, [], ◌∷◌, length, Bool, true, refl, sym, ap, ◌∙◌, arith}
 use Rattle.pli_typing.specs.TypedTree as Y
 use Rattle.pli_meaning.specs.Control.{Label}
 use Rattle.pli_meaning.specs.DeclaredShapes.{variables_of_block}
 use Rattle.pli_meaning.specs.Executing.{labels_in}
 use Rattle.pli_meaning.specs.StorageState.{ancestor_at}
-use Rattle.pli_coding.specs.Frames.{fixed_size, frame_end, last_place, parameters_in, variable_place}
+use Rattle.pli_coding.specs.Frames.{fixed_size, frame_end, parameters_in, variable_place}
 use Rattle.activation_relation.specs.FrameLaws.{with_waits}
 use Rattle.activation_relation.specs.Frames.{frame_under, upper_top}
 use Rattle.activation_relation.specs.Layers.{Layer, Point}
 use Rattle.program_runs.specs.Starts.{image_parts}
 use Rattle.program_runs.specs.Statements.{Outer, as_outer}
-use Rattle.variable_runs.specs.Lists.{all_made}
 use Rattle.argument_runs.specs.Copies.{copy_made_of}
 use Rattle.activation_relation.specs.Variables.{grown}
 use Rattle.argument_runs.specs.ListCalls.{entered_point}
@@ -31,11 +30,11 @@ use Rattle.number_headlines.proofs.CalledBlocks.{Moment}
 use Rattle.number_headlines.proofs.CalledLandings.{HasStacks, end_place, landing_by, made_stacks, with_outers}
 use Rattle.number_headlines.proofs.Landings.{HasLandings, IsTarget, told_landings}
 use Rattle.number_headlines.proofs.ListEntered.{Given, arrived_of, begins, call_of, calls_from, run_given, words_here}
-use Rattle.number_headlines.proofs.ListMade.{call_at, layer_at, made_account, others_at, point_at, words_room}
+use Rattle.number_headlines.proofs.ListMade.{call_at, layer_at, made_account, point_at, words_room}
 use Rattle.number_headlines.proofs.ListSites.{own_of, parameters_for, words_for}
 use Rattle.number_headlines.proofs.ListWords.{behind_here, many_behind, place_behind}
 use Rattle.number_headlines.proofs.Mains.{Main}
-use Rattle.number_headlines.proofs.Running.{Running, block_of_run, function_by, told_run}
+use Rattle.number_headlines.proofs.Running.{Running, block_of_run, function_by}
 
 -- ---- its stacks, and where its frame ends
 

@@ -1,5 +1,5 @@
 -- Jumps out of what is called, to labels of the own lists of the blocks around it.
-use Rattle.std.specs.Prelude.{ℕ, ◌&&◌, ◌||◌, ◌==◌, Bool, true, false, List, [], ◌∷◌, Option, None, Some, nat_lt}
+use Rattle.std.specs.Prelude.{ℕ, ◌&&◌, ◌||◌, ◌==◌, Bool, false, List, [], Option, None, Some, nat_lt}
 use Rattle.std.specs.List.{list_any}
 use Rattle.pli_typing.specs.TypedTree as Y
 use Rattle.pli_meaning.specs.Control.{Label, is_among}
