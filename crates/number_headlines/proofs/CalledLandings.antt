@@ -1,5 +1,5 @@
--- The blocks further out of one that is called from a block of the class, without arguments: the calling block, with the
--- labels that a jump may name there, and those around that.
+-- The blocks further out of one that is called from a block of the class, without arguments: the calling block, with
+-- the labels that a jump may name there, and those around that.
 use Rattle.std.proofs.Common.{◌≡◌, ℕ, suc, ◌+◌, ◌<◌, ◌≤◌, List, [], ◌∷◌, length, Bool, true, false}
 use Rattle.std.proofs.Common.{refl, sym, ap, ◌∙◌, subst, arith}
 use Rattle.std.specs.Prelude.{◌&&◌, ◌==◌, drop, min, nat_lt}
@@ -39,7 +39,8 @@ use Rattle.number_runs.specs.Variables.{are_plain, bytes_of, is_declared, variab
 use Rattle.number_runs.proofs.Declared.{makeable}
 use Rattle.number_runs.proofs.Words.{room_behind}
 use Rattle.number_headlines.specs.Jumps.{is_jumped_to, is_label_around, labels_if, labels_of}
-use Rattle.number_headlines.proofs.CalledBlocks.{DontPass, Moment, are_made, begun_room, callee_in, entered_at, is_inside}
+use Rattle.number_headlines.proofs.CalledBlocks.{DontPass, Moment, are_made, begun_room, callee_in, entered_at}
+use Rattle.number_headlines.proofs.CalledBlocks.{is_inside}
 use Rattle.number_headlines.proofs.Inner.{Inner}
 use Rattle.number_headlines.proofs.Landings.{HasLandings, IsLanding, IsTarget}
 use Rattle.number_headlines.proofs.Mains.{Main, surroundings_for}
@@ -352,7 +353,8 @@ outer_landing {program} {a} {level} z r first outers alike same =
       entries = z.entries;
       edits = z.edits;
       top = z.top
-          ∙ ap (λ n. frame_under image_parts z.outer.first.control.layers + frame_end image_parts program n level) alike;
+          ∙ ap (λ n. frame_under image_parts z.outer.first.control.layers + frame_end image_parts program n level)
+          alike;
       block = sym alike ∙ z.block;
       place = z.place;
       near = z.near;
@@ -365,7 +367,8 @@ pub landing_by :
     {program : Y.Program} (m : Main program) {input : List ℕ} {acts : ℕ} {valued : Bool} {more blocks : ℕ}
     {a : Running} {p : Point} {numbers : ℕ → ℕ} (o : Moment m input acts valued more a blocks p numbers)
     (layers : List Layer → List Layer) → HasLandings m a →
-    (is_jumped_to program m.called a.head.level a.head.number ≡ true → IsTarget program (record a { layers = layers })) →
+    (is_jumped_to program m.called a.head.level a.head.number ≡ true →
+    IsTarget program (record a { layers = layers })) →
     (labels : List Label) →
     (is_jumped_to program m.called a.head.level a.head.number ≡ true → Includes (labels_in a.body) labels) →
     {ns : List ℕ} {v : Bool} {level number : ℕ} (i : Inner m a.head ns v level number) (r : Running) →

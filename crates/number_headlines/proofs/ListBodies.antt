@@ -1,7 +1,7 @@
 -- Calls with a list of arguments in a block of the class do what they mean, if the statements of blocks that may be
 -- entered one level less deep do.
-use Rattle.std.proofs.Common.{◌≡◌, ℕ, zero, suc, ◌+◌, ◌*◌, ◌^◌, ◌<◌, ◌≤◌, List, [], ◌++◌, length, Bool, true, false, refl}
-use Rattle.std.proofs.Common.{sym, ap, subst, arith}
+use Rattle.std.proofs.Common.{◌≡◌, ℕ, zero, suc, ◌+◌, ◌*◌, ◌^◌, ◌<◌, ◌≤◌, List, [], ◌++◌, length, Bool, true, false}
+use Rattle.std.proofs.Common.{refl, sym, ap, subst, arith}
 use Rattle.std.specs.Prelude.{nat_le, nat_lt, Option}
 use Rattle.std.proofs.lemmas.Bool.{le-leb, leb-true}
 use Rattle.pli_language.specs.declared.condition.Condition.TheVariants as C
@@ -194,8 +194,8 @@ given_call_by :
     (most_for program)) need t.layer t.others t.words (t.words + 6 * length t.ways) t.layer.waits t.ways →
     DoesWith t.words (block_of_run program input acts valued (suc more) a) labels
     (given_statement level number line t.ways) index left_over
-given_call_by once {program} m input acts valued more b a few h lands each labels named level number line index need {ns}
-    i t0 site0 stored less room l give =
+given_call_by once {program} m input acts valued more b a few h lands each labels named level number line index need
+    {ns} i t0 site0 stored less room l give =
     let k = block_of_run program input acts valued (suc more) a in
     let z = setting_around t0.words k labels line (most_for program) in
     let u0 = listed_in i more k t0 in
@@ -351,7 +351,8 @@ knows_given once {program} m input acts valued more (suc b) a few e lands each g
           let f = inner_is m a.head (length ways) true level n is in
           let many = f.many in
           given_value_by once m input acts valued more b (told_run a waits φ φs) few (told_running h waits)
-          (told_landings waits φ φs h.free.newest lands) each labels (named labels includes) line level n need f.inner (site words waits ways)
+          (told_landings waits φ φs h.free.newest lands) each labels (named labels includes) line level n need
+          f.inner (site words waits ways)
           (record {
             newest = refl;
             few = omega (arith, words', waiting);
@@ -364,7 +365,8 @@ knows_given once {program} m input acts valued more (suc b) a few e lands each g
           let f = inner_is m a.head (length ways) false level n is in
           let many = f.many in
           given_call_by once m input acts valued more b (told_run a waits φ φs) few (told_running h waits)
-          (told_landings waits φ φs h.free.newest lands) each labels (named labels includes) level n line index need f.inner (site words waits ways)
+          (told_landings waits φ φs h.free.newest lands) each labels (named labels includes) level n line index
+          need f.inner (site words waits ways)
           (record {
             newest = refl;
             few = omega (arith, words', waiting);

@@ -1,5 +1,5 @@
--- A call with a list of arguments comes behind it, or hands on a jump of what is called: to a label of the calling block,
--- which forgets the words of the list, or of one further out.
+-- A call with a list of arguments comes behind it, or hands on a jump of what is called: to a label of the calling
+-- block, which forgets the words of the list, or of one further out.
 use Rattle.std.proofs.Common.{◌≡◌, ℕ, ◌+◌, ◌<◌, ◌≤◌, List, [], ◌∷◌, ◌++◌, Option, None, Some, false, true, refl, sym}
 use Rattle.std.proofs.Common.{ap, subst, arith}
 use Rattle.std.proofs.lemmas.List.{append_assoc}
@@ -228,7 +228,8 @@ unfolding M.block_list
 end_nothing around body k s = refl
 
 pub procedure_exits :
-    (y : ListCall) (made : Point → Point) (os : List Outer) (acts : ℕ) (callee : IsTaking y.surroundings y.code y.callee) →
+    (y : ListCall) (made : Point → Point) (os : List Outer) (acts : ℕ)
+    (callee : IsTaking y.surroundings y.code y.callee) →
     acts ≤ (list_block None y made).first.state.world.acts →
     (IsBegun (list_block None y made) → IsBegun (given_block None y made os)) →
     (IsBegun (given_block None y made os) →

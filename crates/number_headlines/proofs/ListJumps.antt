@@ -22,7 +22,8 @@ use Rattle.word_runs.proofs.Words.{jumps_back}
 use Rattle.jump_runs.specs.Exits.{hand_aims}
 use Rattle.list_calls.specs.Arguments.{ComeTo}
 use Rattle.list_calls.specs.ListCalls.{ArgumentsGive, IsListedCall, Listed, PassesNone, called_with, listed_call}
-use Rattle.list_calls.specs.ListFunctions.{IsListedValue, ValuesGive, listed_there, listed_value, value_block, value_with}
+use Rattle.list_calls.specs.ListFunctions.{IsListedValue, ValuesGive, listed_there, listed_value, value_block}
+use Rattle.list_calls.specs.ListFunctions.{value_with}
 use Rattle.list_calls.specs.Lists.{Passing}
 use Rattle.list_calls.specs.Taking.{AreBeside, body_index, bound_waits, entry_of}
 use Rattle.list_calls.proofs.ListCalls as P

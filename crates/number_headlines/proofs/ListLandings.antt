@@ -17,8 +17,8 @@ use Rattle.activation_relation.specs.Variables.{grown}
 use Rattle.argument_runs.specs.ListCalls.{entered_point}
 use Rattle.word_runs.specs.Words.{telling}
 use Rattle.nested_calls.proofs.NestedVariables.{same_ancestor}
-use Rattle.list_calls.specs.Lists.{Parameter, Passing, PassesCopy, PassesName, bound_all, copied_at, copy_with, name_told}
-use Rattle.list_calls.specs.Lists.{named_as}
+use Rattle.list_calls.specs.Lists.{Parameter, Passing, PassesCopy, PassesName, bound_all, copied_at, copy_with}
+use Rattle.list_calls.specs.Lists.{name_told, named_as}
 use Rattle.list_calls.specs.Taking.{bound_waits, giving_of, given_waits, listed_layer}
 use Rattle.list_calls.proofs.ListBlocks.{layer_is}
 use Rattle.list_calls.proofs.ListKnown.{list_over}

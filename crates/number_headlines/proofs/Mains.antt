@@ -47,7 +47,8 @@ use Rattle.number_runs.proofs.AreaKnown.{all_held, held_area, held_array, held_n
 use Rattle.number_runs.proofs.BlocksTaken.{words_set}
 use Rattle.number_runs.proofs.Words.{room_fewer}
 use Rattle.number_runs.proofs.Variables.{fixed_is}
-use Rattle.number_headlines.specs.Programs.{are_all_known, are_inner, body_of, callable_ones, has_main, is_main, staying_ones}
+use Rattle.number_headlines.specs.Programs.{are_all_known, are_inner, body_of, callable_ones, has_main, is_main}
+use Rattle.number_headlines.specs.Programs.{staying_ones}
 use Rattle.number_headlines.specs.Programs.{has_result, is_body, most_bytes, most_waiting, most_words, are_held}
 use Rattle.number_headlines.specs.Programs.{scope_of}
 use Rattle.number_headlines.proofs.Begins.{block_begins}

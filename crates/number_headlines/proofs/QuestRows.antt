@@ -30,8 +30,8 @@ use Rattle.argument_runs.specs.Parameters.{parameter, parameter_declared}
 use Rattle.pli_headline.specs.Headline.{FitsMemory, parts}
 use Rattle.number_headlines.specs.CallRows.{head_at}
 use Rattle.number_headlines.specs.Headlines.{IsNumberProgram}
-use Rattle.number_headlines.specs.QuestRows.{quest_body, quest_call, quest_formats, quest_label, quest_main, quest_program}
-use Rattle.number_headlines.specs.QuestRows.{quest_spot, seek_body, seek_function, seek_next, seek_spot}
+use Rattle.number_headlines.specs.QuestRows.{quest_body, quest_call, quest_formats, quest_label, quest_main}
+use Rattle.number_headlines.specs.QuestRows.{quest_program, quest_spot, seek_body, seek_function, seek_next, seek_spot}
 use Rattle.number_headlines.specs.QuestRows.{seek_value}
 
 -- ---- it is well formed

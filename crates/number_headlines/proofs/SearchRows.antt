@@ -29,9 +29,9 @@ use Rattle.expression_runs.specs.Variables.{number_declared, variable_of, whole}
 use Rattle.pli_headline.specs.Headline.{FitsMemory, parts}
 use Rattle.number_headlines.specs.CallRows.{head_at}
 use Rattle.number_headlines.specs.Headlines.{IsNumberProgram}
-use Rattle.number_headlines.specs.SearchRows.{found_formats, found_label, next_body, next_function, next_value, search_body}
-use Rattle.number_headlines.specs.SearchRows.{search_call, search_procedure, search_program, sought_body, sought_main}
-use Rattle.number_headlines.specs.SearchRows.{sought_spot, sought_value}
+use Rattle.number_headlines.specs.SearchRows.{found_formats, found_label, next_body, next_function, next_value}
+use Rattle.number_headlines.specs.SearchRows.{search_body, search_call, search_procedure, search_program, sought_body}
+use Rattle.number_headlines.specs.SearchRows.{sought_main, sought_spot, sought_value}
 
 -- ---- it is well formed
 
