@@ -359,12 +359,12 @@ is_ending {g} {y} h =
       word = h.word;
     }
 
-is_giving :
+pub is_giving :
     {g : Option Function} {y : ListCall} {tail : Code} {made : Point → Point} → Entering g y made tail →
     IsGiving (called_of g y) (giving_of g y)
 is_giving {g} h = record { listing = listing h.here h.shallow; call = is_list_call g h.here.parameters h.code; ending = is_ending h }
 
-first_among :
+pub first_among :
     {g : Option Function} {y : ListCall} {tail : Code} {made : Point → Point} (h : Entering g y made tail) →
     IsEarly y.surroundings y.point → (made (bound_point g y)).state.world.acts < y.surroundings.acts →
     IsAmong (list_block g y made) y.numbers (list_block g y made).first
@@ -382,7 +382,7 @@ first_among {g} {y} {made = made} h early less =
       words = h.here.words;
     }
 
-first_begun :
+pub first_begun :
     {g : Option Function} {y : ListCall} {tail : Code} {made : Point → Point} (h : Entering g y made tail) →
     Stands y.surroundings (list_block g y made).first → IsBegun (list_block g y made)
 first_begun {g} {y} {made = made} h stands =
@@ -410,7 +410,7 @@ first_begun {g} {y} {made = made} h stands =
 
 -- ---- what it means
 
-body_means :
+pub body_means :
     {g : Option Function} {y : ListCall} {tail : Code} {made : Point → Point} → Entering g y made tail →
     M.block_body (at_line y.callee.around y.callee.procedure.head.line) y.callee.procedure.head
     y.callee.procedure.body (entry_of g y) y.surroundings.acts (entered_point (giving_of g y)).state

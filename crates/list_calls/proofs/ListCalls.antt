@@ -303,7 +303,7 @@ pub back_is :
     (g : Option Function) (y : ListCall) → (called_of g y).beginning.layer.back ≡ y.callee.calling.call + 2
 back_is g y = ap (λ (ψ : Layer). ψ.back) (layer_is y.callee.parameters y.passed (listed_layer y))
 
-behind_goes :
+pub behind_goes :
     {k : Block} {u : Listed} {line index need most more : ℕ} {numbers : ℕ → ℕ} {p : Point} {acts wanted credits : ℕ}
     {f : Family} {v : Services} {r : Option BasicValue} {s : State} (ys : List Passing)
     (h : IsListedCall k u line index need most more) (o : IsAmong k numbers p) → acts ≤ p.state.world.acts →
@@ -557,7 +557,7 @@ code_of ys h =
       begins = h.callee.stands;
     }
 
-entering_among :
+pub entering_among :
     {k : Block} {u : Listed} {line index need most more : ℕ} {numbers : ℕ → ℕ} {p : Point} (ys : List Passing) →
     (h : IsListedCall k u line index need most more) → PassesNone k.first u.ways → IsAmong k numbers p →
     ComeTo u.ways ys → AreBeside None (called_with k u p numbers ys) u.made →

@@ -217,7 +217,7 @@ shallow_there :
     nat_lt (length p.state.activations) most_activations ≡ true
 shallow_there o few = subst (λ xs. nat_lt (length xs) most_activations ≡ true) (sym o.later.activations) few
 
-entering_there :
+pub entering_there :
     {k : Setting} {u : Listed} {more : ℕ} {numbers : ℕ → ℕ} {p : Point} (call : ℕ) (ys : List Passing) →
     IsListedValue k u more → PassesNone k.block.first u.ways → IsAmong k.block numbers p → ComeTo u.ways ys →
     Linked k.block.call.surroundings.links k.block.call.code call (last_of u) →
@@ -266,7 +266,7 @@ coded k u taken same =
 abbrev pub as_number : Option BasicValue → Meaning ℤ
 as_number r = V.returned r >>= (λ v. give (number_in v))
 
-behind_goes :
+pub behind_goes :
     {k : Setting} {u : Listed} {more : ℕ} {numbers : ℕ → ℕ} {p : Point} {x : Stretch} (call : ℕ) (ys : List Passing)
     (h : IsListedValue k u more) (o : IsAmong k.block numbers p) → x.acts ≤ p.state.world.acts →
     p.control.line ≡ x.line → ((n : ℕ) → n < x.taken → numbers n ≡ x.numbers n) → call + 2 ≡ x.index → (c' : ℕ)

@@ -27,6 +27,7 @@ use Rattle.number_runs.specs.Numbers.{has_none}
 use Rattle.number_runs.specs.Statements.{are_statements, begins_need, statements_need, statements_set}
 use Rattle.number_runs.specs.Variables.{are_plain, words_in}
 use Rattle.number_runs.proofs.BlocksTaken.{plain_known, words_set}
+use Rattle.number_headlines.specs.Jumps.{labels_of}
 use Rattle.number_headlines.specs.Programs.{is_begin_kind, is_begun, is_within, most_deep, most_waiting, scope_of}
 use Rattle.number_headlines.specs.Programs.{stand_alike}
 use Rattle.number_headlines.proofs.Mains.{Main, surroundings_for}
@@ -45,6 +46,7 @@ pub record Within {program : Y.Program} (m : Main program) (valued : Bool) (a : 
     pub bare : parameters_of_block program head.number ≡ []
     pub plain : are_plain (variables_of_block program head.number) ≡ true
     pub waiting : statements_set body ≤ most_waiting
+    pub apart : labels_of program head.number ≡ []
     pub statements :
         are_statements (scope_of program m.called head body) valued (labels_in body ++ []) body ≡ true
     pub line : head.line < 2 ^ 31
@@ -72,10 +74,12 @@ within_is {program} m valued a head body h statements fits =
     let bare = has_none (parameters_of_block program head.number) in
     let plain = are_plain (variables_of_block program head.number) in
     let few = nat_le (statements_set body) most_waiting in
+    let apart = has_none (labels_of program head.number) in
     let alike = stand_alike (environment_for program a.head) e a.head.level in
     let own = block_around e head.level == head.number in
-    let b = and_parts (is_within program a.head head) ((bare && plain) && few) h in
-    let c = and_parts (bare && plain) few b.1 in
+    let b = and_parts (is_within program a.head head) ((bare && plain) && (few && apart)) h in
+    let c = and_parts (bare && plain) (few && apart) b.1 in
+    let n = and_parts few apart c.1 in
     let d = and_parts bare plain c.0 in
     let f = and_parts (is_begin_kind head.kind)
     ((head.level == suc a.head.level) && (nat_lt head.level most_deep && (own && alike))) b.0 in
@@ -90,7 +94,8 @@ within_is {program} m valued a head body h statements fits =
       alike = l.1;
       bare = none_of (parameters_of_block program head.number) d.0;
       plain = d.1;
-      waiting = leb-true (statements_set body) most_waiting c.1;
+      waiting = leb-true (statements_set body) most_waiting n.0;
+      apart = none_of (labels_of program head.number) n.1;
       statements = statements;
       line = fits.0;
       fits = fits.1;

@@ -1,7 +1,7 @@
 -- The statements of each block of a program of the class do what they mean, and so do the calls in them, as deep as
 -- they go.
 use Rattle.std.proofs.Common.{◌≡◌, ℕ, zero, suc, ◌+◌, ◌^◌, ◌<◌, ◌≤◌, List, [], ◌∷◌, ◌++◌, length, Bool, true, false}
-use Rattle.std.proofs.Common.{◌⊎◌, inl, inr, refl, sym, ap, subst, arith}
+use Rattle.std.proofs.Common.{◌⊎◌, inl, inr, refl, sym, ap, subst, arith, Some}
 use Rattle.std.specs.Prelude.{nat_le, nat_lt, not}
 use Rattle.std.proofs.lemmas.Bool.{leb-true}
 use Rattle.std.proofs.lemmas.Bool.Decides.{nat_tests}
@@ -23,14 +23,14 @@ use Rattle.activation_relation.specs.Layers.{Layer}
 use Rattle.run_steps.specs.Items.{Linked}
 use Rattle.run_steps.proofs.Jumps.{back_of}
 use Rattle.run_steps.proofs.Linking.{size_append}
-use Rattle.program_places.specs.Programs.{code_for, links_for, procedures_index, program_environment}
+use Rattle.program_places.specs.Programs.{code_for, links_for, procedures_index, program_environment, body_for}
 use Rattle.program_places.proofs.Callees.{callee_stands}
 use Rattle.program_places.proofs.Found.{known}
 use Rattle.program_places.proofs.Functions.{function_stands}
-use Rattle.program_places.proofs.Procedures.{raise_routines}
+use Rattle.program_places.proofs.Procedures.{body_placed, raise_routines}
 use Rattle.program_runs.specs.Calls.{left_over}
 use Rattle.program_runs.specs.Starts.{image_parts}
-use Rattle.program_runs.specs.Statements.{DoesWith, EachDoes, IsOwn, set_aside}
+use Rattle.program_runs.specs.Statements.{DoesWith, EachDoes, IsOwn, as_outer, set_aside}
 use Rattle.expression_runs.specs.Assignments.{setting_around}
 use Rattle.expression_runs.specs.Laws as L
 use Rattle.phase_runs.proofs.Signals.{signal_ends}
@@ -38,12 +38,17 @@ use Rattle.nested_calls.specs.NestedCalls.{HasFrame, IsNestedCall}
 use Rattle.nested_calls.specs.NestedFunctions.{IsNestedFunction}
 use Rattle.nested_calls.proofs.DeepCalls.{deep_call_ends}
 use Rattle.nested_calls.proofs.FullCalls.{full_call_ends, full_function_ends}
-use Rattle.nested_calls.proofs.NestedCalls.{call_coded, call_of, given_in, nested_call_does}
-use Rattle.nested_calls.proofs.NestedFunctions.{deep_function_ends, nested_function_does}
+use Rattle.nested_calls.proofs.NestedCalls.{call_coded, call_of, given_in}
+use Rattle.nested_calls.proofs.NestedFunctions.{deep_function_ends}
+use Rattle.function_runs.specs.FunctionCalls.{called_from}
+use Rattle.jump_runs.specs.Functions.{function_in}
+use Rattle.jump_runs.proofs.FunctionLists.{each_ends, system_ends}
+use Rattle.jump_runs.proofs.Numbers.{alone}
+use Rattle.program_places.proofs.Labels.{are_marked}
 use Rattle.number_runs.specs.Knowledge as Left
 use Rattle.number_runs.specs.Knowledge.{IsReady, IsUnraised, IsValued, KnowsAroundTexts, KnowsCalls, KnowsPuts}
 use Rattle.number_runs.specs.Knowledge.{KnowsRaises, call_number, call_statement, most_set, KnowsSignals, KnowsBegins}
-use Rattle.number_runs.specs.Knowledge.{KnowsReads, GoesThrough}
+use Rattle.number_runs.specs.Knowledge.{KnowsReads, GoesThrough, Includes}
 use Rattle.number_runs.specs.Numbers.{without_located}
 use Rattle.number_runs.specs.Statements.{statements_set}
 use Rattle.number_runs.specs.Variables.{bytes_of}
@@ -53,9 +58,14 @@ use Rattle.number_runs.proofs.Gets.{reads_known}
 use Rattle.number_runs.proofs.Puts.{puts_known}
 use Rattle.number_runs.proofs.Unraised.{around_texts_end}
 use Rattle.number_headlines.specs.Programs.{is_begin_kind, scope_of}
+use Rattle.number_headlines.specs.Jumps.{is_jumped_to}
+use Rattle.number_headlines.proofs.CalledLandings.{called_landings, entered_leaving, with_outers}
+use Rattle.number_headlines.proofs.Landings.{EachBody, HasLandings, jumps_known, jumps_not, own_included, told_landings}
+use Rattle.number_headlines.proofs.Landings.{waited_landings}
+use Rattle.number_headlines.proofs.NestedJumps.{nested_jump_call_does, nested_jump_function_does}
 use Rattle.number_headlines.proofs.Deciding.{by_decision, entry_low}
 use Rattle.number_headlines.proofs.Entered.{entered}
-use Rattle.number_headlines.proofs.CalledBlocks.{are_made, callee_in, entered_at, inner_set, site_in}
+use Rattle.number_headlines.proofs.CalledBlocks.{Moment, are_made, callee_in, entered_at, inner_set, site_in}
 use Rattle.number_headlines.proofs.Entered.{unraised_there}
 use Rattle.number_headlines.proofs.Full.{are_full}
 use Rattle.number_headlines.proofs.ListBodies.{knows_given}
@@ -63,10 +73,9 @@ use Rattle.number_headlines.proofs.Inner.{Inner, inner_none}
 use Rattle.number_headlines.proofs.Mains.{Main, most_for, result_of, run_for}
 use Rattle.number_headlines.proofs.Puts.{constants_known, error_routine, lists_known}
 use Rattle.number_headlines.proofs.Based.{based_known, placed_known, told_reached}
-use Rattle.number_headlines.proofs.Running.{EachBody, EachGiven, IsEntered, IsRunning, Running, block_of_run, told_run}
-use Rattle.number_headlines.proofs.Running.{told_running, waited_running, IsCalledForm, environment_of_run}
+use Rattle.number_headlines.proofs.Running.{EachGiven, IsEntered, IsRunning, Running, block_of_run, told_run}
+use Rattle.number_headlines.proofs.Running.{told_running, waited_running, IsCalledForm, environment_of_run, IsBegunForm}
 use Rattle.number_headlines.proofs.BeginBodies.{knows_begins}
-use Rattle.number_headlines.proofs.Running.{IsBegunForm}
 
 -- ---- at the end of a block
 
@@ -226,6 +235,8 @@ abbrev EachCall : {program : Y.Program} → Main program → (input : List ℕ) 
 EachCall {program} m input acts valued more a blocks =
     (layers : List Layer → List Layer) (texts : List Entry → List Entry) (own : List Label) →
     IsRunning m input acts valued more (record a { layers = layers; texts = texts }) blocks →
+    HasLandings m (record a { layers = layers; texts = texts }) →
+    (is_jumped_to program m.called a.head.level a.head.number ≡ true → Includes (labels_in a.body) own) →
     KnowsCalls (scope_of program m.called a.head a.body)
     (block_of_run program input acts valued more (record a { layers = layers; texts = texts })) own
     (most_for program) left_over
@@ -235,6 +246,7 @@ abbrev EachBegin : {program : Y.Program} → Main program → (input : List ℕ)
     (more : ℕ) → Running → (blocks : ℕ) → Type 0
 EachBegin {program} m input acts valued more a blocks =
     (layers : List Layer → List Layer) → IsRunning m input acts valued more (record a { layers = layers }) blocks →
+    HasLandings m (record a { layers = layers }) →
     KnowsBegins (scope_of program m.called a.head a.body) valued
     (block_of_run program input acts valued more (record a { layers = layers })) (labels_in a.body ++ []) left_over
 
@@ -243,30 +255,34 @@ texts_of :
     MarkedOnce → {program : Y.Program} (m : Main program) (input : List ℕ) (acts : ℕ) (valued : Bool) (more : ℕ)
     (a : Running) (blocks : ℕ) → acts + 1 < 2 ^ 64 → (layers : List Layer → List Layer) →
     IsRunning m input acts valued more (record a { layers = layers }) blocks →
-    EachCall m input acts valued more a blocks →
+    HasLandings m (record a { layers = layers }) → EachCall m input acts valued more a blocks →
     KnowsAroundTexts (scope_of program m.called a.head a.body)
     (block_of_run program input acts valued more (record a { layers = layers })) (labels_in a.body ++ [])
     (most_for program)
 unfolding unraised_of
-texts_of once {program} m input acts valued more a blocks few layers h calls =
+texts_of once {program} m input acts valued more a blocks few layers h lands calls =
     let k = block_of_run program input acts valued more (record a { layers = layers }) in
     around_texts_end (scope_of program m.called a.head a.body) k (labels_in a.body ++ []) (most_for program)
     (unraised_of once m input acts valued more (record a { layers = layers }) blocks few h)
     (constants_known program k m.memory h.told refl)
-    (λ words set line entries level n is.
-    (calls layers (λ es. entries ++ a.texts es) [] (waited_running h entries)).functions words set [] line level n
-    (λ label among. among) is)
+    (λ none words set line entries level n is.
+    (calls layers (λ es. entries ++ a.texts es) [] (waited_running h entries) (waited_landings entries none lands)
+    (λ jumped. absurd (jumps_not (is_jumped_to program m.called a.head.level a.head.number) none jumped))).functions
+    words set [] line level n (λ label among. among) is)
 
 ready :
     MarkedOnce → {program : Y.Program} (m : Main program) (input : List ℕ) (acts : ℕ) (valued : Bool) (more : ℕ)
     (a : Running) (blocks : ℕ) → acts + 1 < 2 ^ 64 → (e : IsEntered m input acts valued more a blocks) →
-    EachCall m input acts valued more a blocks →
+    HasLandings m a → EachCall m input acts valued more a blocks →
     EachGiven m input acts valued more a e.running.free.layer e.running.free.below →
     EachBegin m input acts valued more a blocks →
     IsReady (scope_of program m.called a.head a.body) valued (block_of_run program input acts valued more a)
     (labels_in a.body ++ []) (most_for program) left_over
-ready once {program} m input acts valued more a blocks few e calls given begins =
+ready once {program} m input acts valued more a blocks few e lands calls given begins =
     let h = e.running in
+    let own = labels_in a.body ++ [] in
+    let named : is_jumped_to program m.called a.head.level a.head.number ≡ true → Includes (labels_in a.body) own =
+    λ jumped. own_included a.body in
     let enough = h.enough in
     let φ = h.free.layer in
     let φs = h.free.below in
@@ -283,13 +299,13 @@ ready once {program} m input acts valued more a blocks few e calls given begins 
       narrows = λ may. h.narrows;
       parameters = h.parameters;
       codes = λ may. absurd (cc may);
-      calls = calls a.layers a.texts (labels_in a.body ++ []) h;
+      calls = calls a.layers a.texts own h lands named;
       based = λ may.
           based_known m input acts valued more a blocks few e (unraised_of once m input acts valued more a blocks few h)
           may;
-      jumps = λ labels level label line index includes out. absurd (cc out);
-      begins = begins a.layers h;
-      texts = λ may. texts_of once m input acts valued more a blocks few a.layers h calls;
+      jumps = jumps_known m input acts valued more a blocks few h lands own;
+      begins = begins a.layers h lands;
+      texts = λ may. texts_of once m input acts valued more a blocks few a.layers h lands calls;
       signals = signals_of once m input acts valued more a blocks few h;
       puts = λ may. puts_of once m input acts valued more a blocks few e;
       reads = λ may. reads_of once m input acts valued more a blocks few h;
@@ -303,13 +319,18 @@ ready once {program} m input acts valued more a blocks few e calls given begins 
         raises = λ waits.
             raises_of once m input acts valued more (told_run a waits φ φs) blocks few (told_running h waits);
         calls = λ waits.
-            calls (λ ls. with_waits waits φ ∷ φs) a.texts (labels_in a.body ++ []) (told_running h waits);
+            calls (λ ls. with_waits waits φ ∷ φs) a.texts own (told_running h waits)
+            (told_landings waits φ φs h.free.newest lands) named;
         given = given;
-        jumps = λ waits labels level label line index includes out. absurd (cc out);
-        begins = λ waits. begins (λ ls. with_waits waits φ ∷ φs) (told_running h waits);
+        jumps = λ waits.
+            jumps_known m input acts valued more (told_run a waits φ φs) blocks few (told_running h waits)
+            (told_landings waits φ φs h.free.newest lands) own;
+        begins = λ waits.
+            begins (λ ls. with_waits waits φ ∷ φs) (told_running h waits)
+            (told_landings waits φ φs h.free.newest lands);
         texts = λ waits may.
             texts_of once m input acts valued more a blocks few (λ ls. with_waits waits φ ∷ φs)
-            (told_running h waits) calls;
+            (told_running h waits) (told_landings waits φ φs h.free.newest lands) calls;
         signals = λ waits.
             signals_of once m input acts valued more (told_run a waits φ φs) blocks few (told_running h waits);
         reached = λ waits may words' less labels line includes.
@@ -334,29 +355,29 @@ ready once {program} m input acts valued more a blocks few e calls given begins 
 frame_left :
     (once : MarkedOnce) {program : Y.Program} (m : Main program) (input : List ℕ) (acts : ℕ) (valued : Bool) (more : ℕ)
     (a : Running) (blocks : ℕ) (few : acts + 1 < 2 ^ 64) (e : IsEntered m input acts valued more a blocks)
-    (calls : EachCall m input acts valued more a blocks)
+    (lands : HasLandings m a) (calls : EachCall m input acts valued more a blocks)
     (given : EachGiven m input acts valued more a e.running.free.layer e.running.free.below)
     (begins : EachBegin m input acts valued more a blocks) →
-    Left.HasFrame (ready once m input acts valued more a blocks few e calls given begins) 0 (statements_set a.body)
+    Left.HasFrame (ready once m input acts valued more a blocks few e lands calls given begins) 0 (statements_set a.body)
 unfolding ready
-frame_left once m input acts valued more a blocks few e calls given begins may =
+frame_left once m input acts valued more a blocks few e lands calls given begins may =
     let words = e.words in
     (omega arith, omega (arith, words))
 
 body_each :
     MarkedOnce → {program : Y.Program} (m : Main program) (input : List ℕ) (acts : ℕ) (valued : Bool) (more : ℕ)
     (a : Running) (blocks : ℕ) → acts + 1 < 2 ^ 64 → (e : IsEntered m input acts valued more a blocks) →
-    EachCall m input acts valued more a blocks →
+    HasLandings m a → EachCall m input acts valued more a blocks →
     EachGiven m input acts valued more a e.running.free.layer e.running.free.below →
     EachBegin m input acts valued more a blocks →
     EachDoes (block_of_run program input acts valued more a) (labels_in a.body ++ []) a.body a.index left_over
-body_each once {program} m input acts valued more a blocks few e calls given begins =
+body_each once {program} m input acts valued more a blocks few e lands calls given begins =
     let h = e.running in
     let s = scope_of program m.called a.head a.body in
     body_does s valued (block_of_run program input acts valued more a) a.body a.index
-    (most_for program) left_over (ready once m input acts valued more a blocks few e calls given begins) h.statements
+    (most_for program) left_over (ready once m input acts valued more a blocks few e lands calls given begins) h.statements
     h.held.own h.held.begins
-    (frame_left once m input acts valued more a blocks few e calls given begins) h.placed
+    (frame_left once m input acts valued more a blocks few e lands calls given begins) h.placed
 
 -- ---- calls, if the statements of blocks that may be entered one level less deep do what they mean
 
@@ -382,14 +403,16 @@ past used e = grind (arith, e, nat_tests)
 
 call_by :
     MarkedOnce → {program : Y.Program} (m : Main program) (input : List ℕ) (acts : ℕ) (valued : Bool) (more b : ℕ)
-    (a : Running) → acts + 1 < 2 ^ 64 → IsRunning m input acts valued (suc more) a (suc b) →
-    EachBody m input acts more → (words : ℕ) → words ≤ most_set →
-    (labels : List Label) (level number line index : ℕ) → Inner m a.head [] false level number → line < 2 ^ 31 →
+    (a : Running) → acts + 1 < 2 ^ 64 → IsRunning m input acts valued (suc more) a (suc b) → HasLandings m a →
+    EachBody m input acts more → (words : ℕ) → words ≤ most_set → (labels : List Label) →
+    (is_jumped_to program m.called a.head.level a.head.number ≡ true → Includes (labels_in a.body) labels) →
+    (level number line index : ℕ) → Inner m a.head [] false level number → line < 2 ^ 31 →
     Linked (links_for program) (linked_code (code_for program)) index
     (stmt_code (environment_of_run program a) (set_aside words) (call_statement level number line)) →
     DoesWith words (block_of_run program input acts valued (suc more) a) labels (call_statement level number line) index
     left_over
-call_by once {program} m input acts valued more b a few h each words set labels level number line index i less l =
+call_by once {program} m input acts valued more b a few h lands each words set labels named level number line index i
+    less l =
     let k = block_of_run program input acts valued (suc more) a in
     let used = automatic_in_use k.first.state.living + bytes_of (variables_of_block program i.head.number) in
     let one = act_code line in
@@ -430,11 +453,15 @@ call_by once {program} m input acts valued more b a few h each words set labels 
     by_decision (nat_le used most_automatic)
     (λ e.
     let pass = leb-true used most_automatic e in
-    nested_call_does words k c level line index left_over more is shallow
+    let os = as_outer k labels ∷ a.form.outers in
+    nested_jump_call_does words k labels c level line index left_over more is shallow
     (λ p numbers o. are_made m (record { running = h; among = o }) i call pass)
     (λ p numbers o b'.
-    each false (entered_at i k call p numbers) b
-    (entered once m (record { running = h; among = o }) i call pass shallow b')) h.begun labels)
+    let r = entered_at i k call p numbers in
+    let at : Moment m input acts valued (suc more) a (suc b) p numbers = record { running = h; among = o } in
+    let bare = alone (block_of_run program input acts false more r) os b' in
+    each false (with_outers os r) b (entered_leaving r os (entered once m at i call pass shallow bare) b')
+    (called_landings m at lands labels named i call pass bare)) h.begun)
     (λ e.
     full_call_ends words k c level line index left_over more is shallow
     (λ p numbers o. are_full m (record { running = h; among = o }) i call few (past used e)) h.begun labels))
@@ -442,12 +469,13 @@ call_by once {program} m input acts valued more b a few h each words set labels 
 
 value_by :
     MarkedOnce → {program : Y.Program} (m : Main program) (input : List ℕ) (acts : ℕ) (valued : Bool) (more b : ℕ)
-    (a : Running) → acts + 1 < 2 ^ 64 → IsRunning m input acts valued (suc more) a (suc b) →
-    EachBody m input acts more → (words : ℕ) → words ≤ most_set →
-    (labels : List Label) (line level number : ℕ) → Inner m a.head [] true level number →
+    (a : Running) → acts + 1 < 2 ^ 64 → IsRunning m input acts valued (suc more) a (suc b) → HasLandings m a →
+    EachBody m input acts more → (words : ℕ) → words ≤ most_set → (labels : List Label) →
+    (is_jumped_to program m.called a.head.level a.head.number ≡ true → Includes (labels_in a.body) labels) →
+    (line level number : ℕ) → Inner m a.head [] true level number →
     L.Does (setting_around words (block_of_run program input acts valued (suc more) a) labels line (most_for program)) 0
     (call_number level number)
-value_by once {program} m input acts valued more b a few h each words set labels line level number i =
+value_by once {program} m input acts valued more b a few h lands each words set labels named line level number i =
     let k = block_of_run program input acts valued (suc more) a in
     let z = setting_around words k labels line (most_for program) in
     let used = automatic_in_use k.first.state.living + bytes_of (variables_of_block program i.head.number) in
@@ -479,14 +507,21 @@ value_by once {program} m input acts valued more b a few h each words set labels
     by_decision (nat_le used most_automatic)
     (λ e.
     let pass = leb-true used most_automatic e in
-    nested_function_does z c level more is shallow
-    (λ call p numbers o. (
-      are_made m (record { running = h; among = o }) i call pass,
-      unraised_there m (record { running = h; among = o }) i call C.Error,
-    ))
-    (λ call p numbers o b'.
-    each true (entered_at i k call p numbers) b
-    (entered once m (record { running = h; among = o }) i call pass shallow b')))
+    let os = as_outer k labels ∷ a.form.outers in
+    nested_jump_function_does z c level more is shallow
+    (λ call p numbers o. are_made m (record { running = h; among = o }) i call pass)
+    (λ call p numbers o list'.
+    let r = entered_at i k call p numbers in
+    let at : Moment m input acts valued (suc more) a (suc b) p numbers = record { running = h; among = o } in
+    let bare = alone (block_of_run program input acts true more r) os list'.begun in
+    let inner = function_in z (called_from c call) p numbers in
+    let body = body_for program i.head i.body in
+    each_ends inner i.body body list'
+    (are_marked (links_for program) (linked_code (code_for program)) body (environment_for program i.head) i.body
+    (body_placed once program i.head i.body (Some (Y.FixedLeaf 31)) m.loadable i.is))
+    (each true (with_outers os r) b (entered_leaving r os (entered once m at i call pass shallow bare) list'.begun)
+    (called_landings m at lands labels named i call pass bare))
+    (system_ends inner i.body body [] list' (unraised_there m at i call C.Error))))
     (λ e.
     full_function_ends z c level more is shallow
     (λ call p numbers o. are_full m (record { running = h; among = o }) i call few (past used e))))
@@ -497,34 +532,37 @@ value_by once {program} m input acts valued more b a few h each words set labels
 knows_calls :
     MarkedOnce → {program : Y.Program} (m : Main program) (input : List ℕ) (acts : ℕ) (valued : Bool)
     (more blocks : ℕ) (a : Running) → acts + 1 < 2 ^ 64 → IsRunning m input acts valued (suc more) a blocks →
-    EachBody m input acts more → (own : List Label) →
+    HasLandings m a → EachBody m input acts more → (own : List Label) →
+    (is_jumped_to program m.called a.head.level a.head.number ≡ true → Includes (labels_in a.body) own) →
     KnowsCalls (scope_of program m.called a.head a.body) (block_of_run program input acts valued (suc more) a)
     own (most_for program) left_over
-knows_calls once m input acts valued more zero a few h each own =
+knows_calls once m input acts valued more zero a few h lands each own named =
     let some = h.depth.some in absurd (omega (arith, some))
-knows_calls once m input acts valued more (suc b) a few h each own =
+knows_calls once m input acts valued more (suc b) a few h lands each own named =
     record {
       functions = λ words set labels line level n includes f.
-          value_by once m input acts valued more b a few h each words set.0 labels line level n
+          value_by once m input acts valued more b a few h lands each words set.0 labels
+          (λ jumped label among. includes label (named jumped label among)) line level n
           (inner_none m a.head true level n f);
       procedures = λ words set labels level n line index includes f less l.
-          call_by once m input acts valued more b a few h each words set.0 labels level n line index
+          call_by once m input acts valued more b a few h lands each words set.0 labels
+          (λ jumped label among. includes label (named jumped label among)) level n line index
           (inner_none m a.head false level n f) less l;
     }
 
 pub each_body :
     MarkedOnce → {program : Y.Program} (m : Main program) (input : List ℕ) (acts : ℕ) → acts + 1 < 2 ^ 64 →
     (more : ℕ) → EachBody m input acts more
-each_body once m input acts few zero valued a blocks h =
+each_body once m input acts few zero valued a blocks h lands =
     let enough = h.running.enough in
     let allowed = h.running.begun.resumes.stands.allowed in
     absurd (omega (arith, enough, allowed))
-each_body once m input acts few (suc more) valued a blocks h =
-    body_each once m input acts valued (suc more) a blocks few h
-    (λ layers texts own is.
+each_body once m input acts few (suc more) valued a blocks h lands =
+    body_each once m input acts valued (suc more) a blocks few h lands
+    (λ layers texts own is there named.
     knows_calls once m input acts valued more blocks (record a { layers = layers; texts = texts })
-    few is (each_body once m input acts few more) own)
-    (knows_given once m input acts valued more blocks a few h (each_body once m input acts few more))
-    (λ layers is.
-    knows_begins m input acts valued more blocks (record a { layers = layers }) few is
-    (each_body once m input acts few more) (labels_in a.body ++ []))
+    few is there (each_body once m input acts few more) own named)
+    (knows_given once m input acts valued more blocks a few h lands (each_body once m input acts few more))
+    (λ layers is there.
+    knows_begins m input acts valued more blocks (record a { layers = layers }) few is there
+    (each_body once m input acts few more) (labels_in a.body ++ []) (λ jumped. own_included a.body))

@@ -57,7 +57,8 @@ use Rattle.number_headlines.proofs.Around.{none_received, received_parts}
 use Rattle.number_headlines.proofs.CalledBlocks.{made_idle}
 use Rattle.number_headlines.proofs.FullWords.{words_at, words_lower}
 use Rattle.number_headlines.proofs.Mains.{Main, block_for, level_of, made_system, main_all, main_begun, main_area}
-use Rattle.number_headlines.proofs.Mains.{main_array, main_for, main_narrow, held_for, main_is, main_pointer}
+use Rattle.number_headlines.proofs.MainLandings.{main_landings, main_run}
+use Rattle.number_headlines.proofs.Mains.{class_main, main_array, main_for, main_narrow, held_for, main_pointer}
 use Rattle.number_headlines.proofs.Mains.{main_layer, main_number, main_room, main_spare, main_told, own_words, placed}
 use Rattle.number_headlines.proofs.Mains.{main_areas, run_for}
 use Rattle.number_headlines.proofs.Telling.{serial_given}
@@ -67,15 +68,10 @@ use Rattle.number_headlines.proofs.Mains.{spare, start_for, surroundings_for}
 use Rattle.number_headlines.proofs.Loops.{after_waits, after_words}
 use Rattle.number_headlines.proofs.Places.{around_is}
 use Rattle.number_headlines.proofs.Pointers.{pointers_own}
-use Rattle.number_headlines.proofs.Running.{IsEntered, IsPointing, Running, called_held, run_of, table_later}
+use Rattle.number_headlines.proofs.Running.{IsEntered, IsPointing, called_held, table_later}
 use Rattle.number_headlines.proofs.Tables.{has_start, has_table, held_block}
 
 -- ---- the main procedure as the first block that runs
-
-abbrev main_run : {program : Y.Program} → Main program → (input : List ℕ) → (acts : ℕ) → Running
-main_run {program} m input acts =
-    run_of false (surroundings_for program input acts) (main_for m input acts) (body_for program m.head m.body)
-    (start_for program input acts) no_numbers
 
 -- the one activation, with the variables that it has by then
 abbrev lone : (level : ℕ) → List Binding → List Activation
@@ -311,7 +307,7 @@ main_each :
     EachDoes (block_for m input acts) (labels_in m.body ++ []) m.body (body_for program m.head m.body) left_over
 main_each once {program} m input acts few b =
     each_body once m input acts few acts false (main_run m input acts) most_activations
-    (main_running once m input acts b)
+    (main_running once m input acts b) (main_landings m input acts)
 
 -- ---- the whole
 
@@ -355,5 +351,5 @@ pub headline_kept :
 headline_kept once tables kept program h fits =
     let a = and_parts (are_all_known program.variables) (has_main program program.procedures) h.numbers in
     let load : IsLoadable program = record { well_formed = h.well_formed; fits = fits.code_fits } in
-    let m = main_is program program.procedures refl a.0 load fits a.1 in
+    let m = class_main program program.procedures refl a.0 load fits a.1 in
     kept program (layout_for m) (program_runs once tables m fits)

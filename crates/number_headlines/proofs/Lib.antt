@@ -14,6 +14,13 @@ pub mod CalledBlocks
 pub mod Around
 pub mod Entered
 pub mod Full
+pub mod NestedJumps
+pub mod ListHands
+pub mod ListJumps
+pub mod Landings
+pub mod CalledLandings
+pub mod MainLandings
+pub mod ListLandings
 pub mod Deciding
 pub mod ListBounds
 pub mod ListPlaces
@@ -25,6 +32,7 @@ pub mod ListBodies
 pub mod BeginSites
 pub mod BeginWords
 pub mod BeginEntered
+pub mod BeginLandings
 pub mod BeginBodies
 pub mod Bodies
 pub mod Kept
@@ -52,3 +60,5 @@ pub mod LentRows
 pub mod HolderRows
 pub mod BeginRows
 pub mod ReadRows
+pub mod SearchRows
+pub mod QuestRows

@@ -1,7 +1,7 @@
 -- Calls with a list of arguments in a block of the class do what they mean, if the statements of blocks that may be
 -- entered one level less deep do.
-use Rattle.std.proofs.Common.{◌≡◌, ℕ, zero, suc, ◌+◌, ◌*◌, ◌^◌, ◌<◌, ◌≤◌, List, ◌++◌, length, Bool, true, false, refl}
-use Rattle.std.proofs.Common.{sym, ap, subst, arith}
+use Rattle.std.proofs.Common.{◌≡◌, ℕ, zero, suc, ◌+◌, ◌*◌, ◌^◌, ◌<◌, ◌≤◌, List, [], ◌++◌, length, Bool, true, false}
+use Rattle.std.proofs.Common.{refl, sym, ap, subst, arith}
 use Rattle.std.specs.Prelude.{nat_le, nat_lt, Option}
 use Rattle.std.proofs.lemmas.Bool.{le-leb, leb-true}
 use Rattle.pli_language.specs.declared.condition.Condition.TheVariants as C
@@ -33,27 +33,34 @@ use Rattle.list_calls.specs.ListCalls.{IsListedCall, copies_take}
 use Rattle.list_calls.specs.ListFunctions.{IsListedValue}
 use Rattle.list_calls.specs.ListKnown.{AreStored}
 use Rattle.list_calls.proofs.Telling.{telling_named}
-use Rattle.list_calls.proofs.ListCalls.{listed_call_does}
 use Rattle.list_calls.proofs.ListCode.{call_coded, given_list, giving_in, last_of}
-use Rattle.list_calls.proofs.ListFunctions.{deep_function_ends, full_function_ends, listed_function_does}
+use Rattle.list_calls.proofs.ListFunctions.{deep_function_ends, full_function_ends}
 use Rattle.list_calls.proofs.ListFunctions.{beside_function_ends}
 use Rattle.list_calls.proofs.ListLimits.{deep_call_ends, full_call_ends, beside_call_ends}
-use Rattle.number_runs.specs.Knowledge.{IsPassable, given_number, given_statement}
+use Rattle.pli_meaning.specs.Executing.{labels_in}
+use Rattle.number_runs.specs.Knowledge.{Includes, IsPassable, given_number, given_statement}
 use Rattle.number_runs.specs.Numbers.{is_known}
 use Rattle.number_runs.proofs.Received.{stored_told}
 use Rattle.number_headlines.proofs.Deciding.{by_decision, entry_low}
 use Rattle.number_headlines.proofs.Inner.{Inner, inner_is}
 use Rattle.number_headlines.proofs.ListPlaces.{function_taking, procedure_taking}
 use Rattle.number_headlines.proofs.Mains.{Main, most_for}
-use Rattle.number_headlines.proofs.Running.{EachBody, EachGiven, IsEntered, IsRunning, Running, around_for}
-use Rattle.number_headlines.proofs.Running.{block_of_run, environment_of_run, told_run, told_running}
+use Rattle.number_headlines.proofs.Running.{EachGiven, IsEntered, IsRunning, Running, around_for, block_of_run}
+use Rattle.number_headlines.proofs.Running.{environment_of_run, told_run, told_running}
+use Rattle.number_headlines.proofs.CalledLandings.{entered_leaving, with_outers}
+use Rattle.number_headlines.proofs.Landings.{EachBody, HasLandings, own_included, told_landings}
+use Rattle.number_headlines.proofs.ListHands.{callers_of}
+use Rattle.number_headlines.proofs.ListJumps.{listed_jump_call_does, listed_jump_function_does}
+use Rattle.number_headlines.proofs.ListLandings.{given_landings}
 use Rattle.number_headlines.proofs.Based.{tabled_at}
 use Rattle.number_headlines.proofs.Telling.{serial_given}
+use Rattle.number_headlines.specs.Jumps.{is_jumped_to}
 use Rattle.number_headlines.specs.Programs.{scope_of}
 use Rattle.std.proofs.lemmas.Bool.Decides.{nat_tests}
 use Rattle.list_calls.specs.Lists.{Passing}
 use Rattle.number_runs.specs.Variables.{bytes_of}
-use Rattle.number_headlines.proofs.ListEntered.{given_entered, listed_beside, system_there}
+use Rattle.jump_runs.proofs.Numbers.{alone}
+use Rattle.number_headlines.proofs.ListEntered.{Given, given_entered, listed_beside, system_there}
 use Rattle.number_headlines.proofs.ListMade.{Arrived, beside_in, full_beside}
 use Rattle.number_headlines.proofs.ListSites.{CopiesFit, IsSite, Site', listed_at, listed_declared}
 use Rattle.number_headlines.proofs.ListSites.{listed_in, own_of, received_by}
@@ -96,16 +103,17 @@ arrived h i t is fits p numbers ys o come =
 given_value_by :
     MarkedOnce → {program : Y.Program} (m : Main program) (input : List ℕ) (acts : ℕ) (valued : Bool) (more b : ℕ)
     (a : Running) → acts + 1 < 2 ^ 64 → IsRunning m input acts valued (suc more) a (suc b) →
-    EachBody m input acts more → (labels : List Label) (line level number need : ℕ) {ns : List ℕ} →
-    Inner m a.head ns true level number → (t : Site') →
+    HasLandings m a → EachBody m input acts more → (labels : List Label) →
+    (is_jumped_to program m.called a.head.level a.head.number ≡ true → Includes (labels_in a.body) labels) →
+    (line level number need : ℕ) {ns : List ℕ} → Inner m a.head ns true level number → (t : Site') →
     IsSite (block_of_run program input acts valued (suc more) a) ns t →
     AreStored (block_of_run program input acts valued (suc more) a).first t.ways →
     EachGives (setting_around t.words (block_of_run program input acts valued (suc more) a) labels line
     (most_for program)) need t.layer t.others t.words (t.words + 6 * length t.ways) t.layer.waits t.ways →
     L.Does (setting_around t.words (block_of_run program input acts valued (suc more) a) labels line
     (most_for program)) need (given_number level number t.ways)
-given_value_by once {program} m input acts valued more b a few h each labels line level number need {ns} i t site
-    stored give =
+given_value_by once {program} m input acts valued more b a few h lands each labels named line level number need {ns} i t
+    site stored give =
     let k = block_of_run program input acts valued (suc more) a in
     let z = setting_around t.words k labels line (most_for program) in
     let u = listed_in i more k t in
@@ -134,13 +142,14 @@ given_value_by once {program} m input acts valued more b a few h each labels lin
     by_decision (nat_le (used + bytes) most_automatic)
     (λ whole.
     let all = leb-true (used + bytes) most_automatic whole in
-    listed_function_does z u need more is (record { shallow = shallow; limit = fits }) give
+    listed_jump_function_does z u need more is (record { shallow = shallow; limit = fits }) give
     (λ call p numbers ys o come.
     let there = arrived h i (record t { call = call }) (site_again site call) fits p numbers ys o come in
     (listed_beside m there all, system_there there C.Error))
     (λ call p numbers ys o come coded b'.
-    each true (listed_at i more k (record t { call = call }) p numbers ys) b
-    (given_entered once m (record {
+    let r = listed_at i more k (record t { call = call }) p numbers ys in
+    let os = callers_of k (listed_in i more k (record t { call = call })) p numbers ys labels in
+    let at : Given m input acts valued more b a ns true level number = record {
       caller = h;
       inner = i;
       site = record t { call = call };
@@ -155,8 +164,10 @@ given_value_by once {program} m input acts valued more b a few h each labels lin
       among = o;
       come = come;
       coded = coded;
-      begun = b';
-    }))))
+      begun = alone (block_of_run program input acts true more r) os b';
+    } in
+    each true (with_outers os r) b (entered_leaving r os (given_entered once m at) b')
+    (given_landings m at lands labels named)))
     (λ over.
     beside_function_ends z u need more is (record { shallow = shallow; limit = fits }) give
     (λ call p numbers ys o come.
@@ -171,8 +182,9 @@ given_value_by once {program} m input acts valued more b a few h each labels lin
 given_call_by :
     MarkedOnce → {program : Y.Program} (m : Main program) (input : List ℕ) (acts : ℕ) (valued : Bool) (more b : ℕ)
     (a : Running) → acts + 1 < 2 ^ 64 → IsRunning m input acts valued (suc more) a (suc b) →
-    EachBody m input acts more → (labels : List Label) (level number line index need : ℕ) {ns : List ℕ} →
-    Inner m a.head ns false level number → (t : Site') →
+    HasLandings m a → EachBody m input acts more → (labels : List Label) →
+    (is_jumped_to program m.called a.head.level a.head.number ≡ true → Includes (labels_in a.body) labels) →
+    (level number line index need : ℕ) {ns : List ℕ} → Inner m a.head ns false level number → (t : Site') →
     IsSite (block_of_run program input acts valued (suc more) a) ns t →
     AreStored (block_of_run program input acts valued (suc more) a).first t.ways → line < 2 ^ 31 →
     need ≤ (block_of_run program input acts valued (suc more) a).registers →
@@ -182,8 +194,8 @@ given_call_by :
     (most_for program)) need t.layer t.others t.words (t.words + 6 * length t.ways) t.layer.waits t.ways →
     DoesWith t.words (block_of_run program input acts valued (suc more) a) labels
     (given_statement level number line t.ways) index left_over
-given_call_by once {program} m input acts valued more b a few h each labels level number line index need {ns} i t0
-    site0 stored less room l give =
+given_call_by once {program} m input acts valued more b a few h lands each labels named level number line index need
+    {ns} i t0 site0 stored less room l give =
     let k = block_of_run program input acts valued (suc more) a in
     let z = setting_around t0.words k labels line (most_for program) in
     let u0 = listed_in i more k t0 in
@@ -232,12 +244,13 @@ given_call_by once {program} m input acts valued more b a few h each labels leve
     by_decision (nat_le (used + bytes) most_automatic)
     (λ whole.
     let all = leb-true (used + bytes) most_automatic whole in
-    listed_call_does k u labels line index left_over need (most_for program) more is
+    listed_jump_call_does k u labels line index left_over need (most_for program) more is
     (record { shallow = shallow; limit = fits }) give
     (λ p numbers ys o come. listed_beside m (arrived h i t site fits p numbers ys o come) all)
     (λ p numbers ys o come b'.
-    each false (listed_at i more k t p numbers ys) b
-    (given_entered once m (record {
+    let r = listed_at i more k t p numbers ys in
+    let os = callers_of k u p numbers ys labels in
+    let at : Given m input acts valued more b a ns false level number = record {
       caller = h;
       inner = i;
       site = t;
@@ -252,8 +265,10 @@ given_call_by once {program} m input acts valued more b a few h each labels leve
       among = o;
       come = come;
       coded = is.callee.coded;
-      begun = b';
-    }))))
+      begun = alone (block_of_run program input acts false more r) os b';
+    } in
+    each false (with_outers os r) b (entered_leaving r os (given_entered once m at) b')
+    (given_landings m at lands labels named)))
     (λ over.
     beside_call_ends k u labels line index left_over need (most_for program) more is
     (record { shallow = shallow; limit = fits }) give
@@ -309,17 +324,20 @@ passable_of {program} m input acts valued more blocks a h x known =
 pub knows_given :
     MarkedOnce → {program : Y.Program} (m : Main program) (input : List ℕ) (acts : ℕ) (valued : Bool)
     (more blocks : ℕ) (a : Running) → acts + 1 < 2 ^ 64 →
-    (e : IsEntered m input acts valued (suc more) a blocks) → EachBody m input acts more →
+    (e : IsEntered m input acts valued (suc more) a blocks) → HasLandings m a → EachBody m input acts more →
     EachGiven m input acts valued (suc more) a e.running.free.layer e.running.free.below
-knows_given once m input acts valued more zero a few e each gives =
+knows_given once m input acts valued more zero a few e lands each gives =
     let some = e.running.depth.some in absurd (omega (arith, some))
-knows_given once {program} m input acts valued more (suc b) a few e each gives =
+knows_given once {program} m input acts valued more (suc b) a few e lands each gives =
     let h = e.running in
     let φ = h.free.layer in
     let φs = h.free.below in
     let k = block_of_run program input acts valued (suc more) a in
     let words' = e.words in
     let waiting = h.waiting in
+    let named : (labels : List Label) → Includes (labels_in a.body ++ []) labels →
+    is_jumped_to program m.called a.head.level a.head.number ≡ true → Includes (labels_in a.body) labels =
+    λ labels includes jumped label among. includes label (own_included a.body label among) in
     let site : (words : ℕ) → (waits : ℕ → Option ℕ) → List Way → Site' = λ words waits ways. record {
       words = words;
       ways = ways;
@@ -332,8 +350,9 @@ knows_given once {program} m input acts valued more (suc b) a few e each gives =
       functions = λ words waits labels line level n need ways some stored includes free room is give.
           let f = inner_is m a.head (length ways) true level n is in
           let many = f.many in
-          given_value_by once m input acts valued more b (told_run a waits φ φs) few (told_running h waits) each
-          labels line level n need f.inner (site words waits ways)
+          given_value_by once m input acts valued more b (told_run a waits φ φs) few (told_running h waits)
+          (told_landings waits φ φs h.free.newest lands) each labels (named labels includes) line level n need
+          f.inner (site words waits ways)
           (record {
             newest = refl;
             few = omega (arith, words', waiting);
@@ -345,8 +364,9 @@ knows_given once {program} m input acts valued more (suc b) a few e each gives =
       procedures = λ words waits labels level n line index need ways some stored includes free room is less fits l give.
           let f = inner_is m a.head (length ways) false level n is in
           let many = f.many in
-          given_call_by once m input acts valued more b (told_run a waits φ φs) few (told_running h waits) each
-          labels level n line index need f.inner (site words waits ways)
+          given_call_by once m input acts valued more b (told_run a waits φ φs) few (told_running h waits)
+          (told_landings waits φ φs h.free.newest lands) each labels (named labels includes) level n line index
+          need f.inner (site words waits ways)
           (record {
             newest = refl;
             few = omega (arith, words', waiting);

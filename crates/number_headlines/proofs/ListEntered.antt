@@ -87,7 +87,7 @@ listed_beside {program} m {v = v} o all =
     (words_for o.inner) (all_beside m o all)
 
 -- the point where they have been made, by the newest layer
-words_here :
+pub words_here :
     {program : Y.Program} {m : Main program} {input : List ℕ} {acts : ℕ} {valued : Bool} {more b : ℕ} {a : Running}
     {ns : List ℕ} {v : Bool} {level number : ℕ} (o : Arrived m input acts valued more b a ns v level number) →
     newest_all image_parts (words_for o.inner) (point_at o)
@@ -176,7 +176,7 @@ arrived_of o =
       come = o.come;
     }
 
-begins :
+pub begins :
     {program : Y.Program} (m : Main program) {input : List ℕ} {acts : ℕ} {valued : Bool} {more b : ℕ} {a : Running}
     {ns : List ℕ} {v : Bool} {level number : ℕ} (o : Given m input acts valued more b a ns v level number) →
     Begins (function_by v) (calls_from o) (call_of o) more o.point o.numbers o.passed

@@ -107,7 +107,7 @@ listed_at {program} {valued = valued} i more k t p numbers ys =
       made = newest_all image_parts (words_for i) (bound_point (function_by valued) y);
       layers = λ ls. ls;
       texts = λ es. es;
-      form = called_form valued (entry_for program i.head.number) (procedure_for program i.head i.body);
+      form = called_form valued (entry_for program i.head.number) (procedure_for program i.head i.body) [];
     }
 
 -- ---- what it asks for

@@ -1,7 +1,7 @@
 -- The main procedure of a program of the class where it begins: its variables are made, and there is room for more.
 use Rattle.std.proofs.Common.{◌≡◌, ℕ, ◌+◌, ◌*◌, ◌≤◌, List, [], ◌∷◌, ◌++◌, Option, None, Some, true, false}
 use Rattle.std.proofs.Common.{length, refl, sym, ap, ◌∙◌, subst, arith}
-use Rattle.std.specs.Prelude.{◌&&◌, Bool, nat_le}
+use Rattle.std.specs.Prelude.{◌&&◌, ◌||◌, Bool, nat_le}
 use Rattle.std.proofs.lemmas.Bool.{and_parts, leb-true}
 use Rattle.pli_language.specs.declared.condition.Condition.{Condition}
 use Rattle.pli_typing.specs.TypedTree as Y
@@ -47,7 +47,8 @@ use Rattle.number_runs.proofs.AreaKnown.{all_held, held_area, held_array, held_n
 use Rattle.number_runs.proofs.BlocksTaken.{words_set}
 use Rattle.number_runs.proofs.Words.{room_fewer}
 use Rattle.number_runs.proofs.Variables.{fixed_is}
-use Rattle.number_headlines.specs.Programs.{are_all_known, are_inner, body_of, callable_ones, has_main}
+use Rattle.number_headlines.specs.Programs.{are_all_known, are_inner, body_of, callable_ones, has_main, is_main}
+use Rattle.number_headlines.specs.Programs.{staying_ones}
 use Rattle.number_headlines.specs.Programs.{has_result, is_body, most_bytes, most_waiting, most_words, are_held}
 use Rattle.number_headlines.specs.Programs.{scope_of}
 use Rattle.number_headlines.proofs.Begins.{block_begins}
@@ -145,15 +146,13 @@ pub record Main (program : Y.Program) : Type 0 where
 abbrev pub placed : {program : Y.Program} → Main program → Placed.Main
 placed m = record { head = m.head; body = m.body; others = m.others }
 
-pub main_is :
-    (program : Y.Program) (ps : List Y.Procedure) → program.procedures ≡ ps →
+main_is :
+    (program : Y.Program) (called : List ℕ) (p : Y.Procedure) (ps : List Y.Procedure) → program.procedures ≡ p ∷ ps →
     are_all_known program.variables ≡ true → IsLoadable program → FitsMemory (picture_of parts program) →
-    has_main program ps ≡ true → Main program
-main_is program [] e known load fits h = absurd (cc h)
-main_is program (p ∷ ps) e known load fits h =
+    is_main program called p ≡ true → Main program
+main_is program called p ps e known load fits h =
     let head = head_of p.block in
     let body = body_of p.block in
-    let called = callable_ones program in
     let s = scope_of program called head body in
     let plain = are_held (variables_of_block program head.number) in
     let all = are_inner program called called in
@@ -184,6 +183,20 @@ main_is program (p ∷ ps) e known load fits h =
       waiting = leb-true (statements_set body) most_waiting r.1;
       inners = c.1;
     }
+
+main_either : (q r : Bool) {P : Type 0} → (q || r) ≡ true → (q ≡ true → P) → (r ≡ true → P) → P
+main_either true r h one other = one refl
+main_either false r h one other = other h
+
+pub class_main :
+    (program : Y.Program) (ps : List Y.Procedure) → program.procedures ≡ ps →
+    are_all_known program.variables ≡ true → IsLoadable program → FitsMemory (picture_of parts program) →
+    has_main program ps ≡ true → Main program
+class_main program [] e known load fits h = absurd (cc h)
+class_main program (p ∷ ps) e known load fits h =
+    main_either (is_main program (staying_ones program) p) (is_main program (callable_ones program) p) h
+    (main_is program (staying_ones program) p ps e known load fits)
+    (main_is program (callable_ones program) p ps e known load fits)
 
 -- ---- in a run
 

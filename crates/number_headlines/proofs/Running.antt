@@ -31,7 +31,7 @@ use Rattle.program_places.specs.Placed.{Placed}
 use Rattle.program_places.specs.Programs.{code_for, environment_for, links_for, procedure_for}
 use Rattle.program_runs.specs.Calls.{Callee, begun_at, left_over}
 use Rattle.program_runs.specs.Procedures.{Procedure, block_of, layer_for}
-use Rattle.program_runs.specs.Statements.{Block, EachDoes, IsAmong, IsBegun, Outer, with_texts}
+use Rattle.program_runs.specs.Statements.{Block, IsAmong, IsBegun, Outer, with_texts}
 use Rattle.program_runs.proofs.Waiting.{begun_waits}
 use Rattle.expression_runs.specs.Variables.{IsNumber, Spot}
 use Rattle.text_runs.proofs.Waiting.{number_waits}
@@ -97,15 +97,15 @@ pub record Form : Type 0 where
   pub outers : List Outer
 
 -- a procedure's or a function's own block
-abbrev pub called_form : (valued : Bool) → (entry : ℕ) → Procedure → Form
-called_form valued entry x =
+abbrev pub called_form : (valued : Bool) → (entry : ℕ) → Procedure → List Outer → Form
+called_form valued entry x os =
     record {
       entry = entry;
       function = function_by valued;
       behind = acted x.head.line;
       owner = BlockOwner (record { number = x.head.number; level = x.head.level });
       registers = x.saved;
-      outers = [];
+      outers = os;
     }
 
 -- with what it is entered, the layer with which it begins, the indices of its call, of its first statement and of its
@@ -173,7 +173,7 @@ run_of valued w c index p numbers =
       made = c.made (begun_at w c p numbers);
       layers = λ ls. ls;
       texts = λ es. es;
-      form = called_form valued c.calling.entry c.procedure;
+      form = called_form valued c.calling.entry c.procedure [];
     }
 
 -- ---- what is known there
@@ -306,13 +306,7 @@ pub record IsEntered {program : Y.Program} (m : Main program) (input : List ℕ)
         (x : Spot) → is_area_known (scope_of program m.called a.head a.body) x ≡ true →
         HasArea (block_of_run program input acts valued more a) x
 
--- the statements of each block that may be entered so many deep do what they mean
-abbrev pub EachBody : {program : Y.Program} → Main program → (input : List ℕ) → (acts more : ℕ) → Type 0
-EachBody {program} m input acts more =
-    (valued : Bool) (a : Running) (blocks : ℕ) → IsEntered m input acts valued more a blocks →
-    EachDoes (block_of_run program input acts valued more a) (labels_in a.body ++ []) a.body a.index left_over
-
--- and so do the calls with arguments in a block
+-- the calls with arguments in a block do what they mean
 abbrev pub EachGiven : {program : Y.Program} → Main program → (input : List ℕ) → (acts : ℕ) → (valued : Bool) →
     (more : ℕ) → Running → Layer → List Layer → Type 0
 EachGiven {program} m input acts valued more a φ φs =

@@ -1,3 +1,4 @@
+pub mod Jumps
 pub mod Programs
 pub mod Headlines
 pub mod Rows
@@ -24,3 +25,5 @@ pub mod LentRows
 pub mod HolderRows
 pub mod BeginRows
 pub mod ReadRows
+pub mod SearchRows
+pub mod QuestRows

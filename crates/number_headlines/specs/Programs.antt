@@ -14,6 +14,7 @@ use Rattle.number_runs.specs.Numbers.{Names, Scope, has_none, is_fixed, is_param
 use Rattle.number_runs.specs.Statements.{are_statements, begins_need, statements_need, statements_set}
 use Rattle.number_runs.specs.Areas.{held_bytes}
 use Rattle.number_runs.specs.Variables.{are_any, are_known, are_plain, bytes_of}
+use Rattle.number_headlines.specs.Jumps.{is_jumped_to, is_label_around, jumps_out, labels_of}
 use Rattle.pli_headline.specs.Headline.{parts}
 
 -- ---- variables
@@ -175,16 +176,17 @@ is_within program around head =
     && ((block_around (environment_for program head) head.level == head.number)
     && stand_alike (environment_for program around) (environment_for program head) around.level)))
 
--- and declares variables of the class
+-- declares variables of the class, and has a number of its own
 abbrev pub is_begun : Y.Program → (around : Y.BlockHead) → Y.BlockHead → Y.Stmts → Bool
 is_begun program around head body =
     is_within program around head
     && ((has_none (parameters_of_block program head.number) && are_plain (variables_of_block program head.number))
-    && nat_le (statements_set body) most_waiting)
+    && (nat_le (statements_set body) most_waiting && has_none (labels_of program head.number)))
 
 -- ---- what a block may name and call
 
--- its own variables and parameters, those of the blocks around it, and these procedures, with arguments
+-- its own variables and parameters, those of the blocks around it, these procedures, with arguments, and labels of the
+-- blocks around it; no text of it waits for a function if its own labels may be jumped to
 abbrev pub names_of : Y.Program → List ℕ → Y.BlockHead → Y.Stmts → Names
 names_of program ns head body =
     record {
@@ -196,6 +198,8 @@ names_of program ns head body =
       is_given_procedure = λ count. is_callable program ns head count false;
       locates = nat_le least_located (statements_set body);
       pointers = pointers_of head;
+      waits = not (is_jumped_to program ns head.level head.number);
+      is_outer = λ level label. is_label_around program ns head level label;
       returns = not (is_begin_kind head.kind);
       is_begin = is_begun program head;
     }
@@ -221,9 +225,10 @@ scope_of program ns head body =
       divides = true;
       narrows = true;
       texts = true;
+      waits = (names_of program ns head body).waits;
       elements = true;
       own = true;
-      is_outer = λ level label. false;
+      is_outer = (names_of program ns head body).is_outer;
       signals = λ c. true;
       codes = false;
       returns = (names_of program ns head body).returns;
@@ -268,6 +273,15 @@ closed_of program (suc rounds) ns = closed_of program rounds (kept_of program ns
 abbrev pub callable_ones : Y.Program → List ℕ
 callable_ones program = closed_of program (length program.procedures) (numbers_of program.procedures)
 
+-- those that have no GOTO out of their blocks
+abbrev pub staying_of : List Y.Procedure → List Y.Procedure
+staying_of [] = []
+staying_of (p ∷ ps) = if jumps_out p then staying_of ps else p ∷ staying_of ps
+
+-- those of them that call only one another
+abbrev pub staying_ones : Y.Program → List ℕ
+staying_ones program = closed_of program (length program.procedures) (numbers_of (staying_of program.procedures))
+
 -- the variables of the main procedure, areas among them
 abbrev pub are_held : List Y.DeclaredVariable → Bool
 are_held ds = are_any ds && nat_le (held_bytes parts ds) most_bytes
@@ -281,10 +295,10 @@ is_main program called p =
     && (is_body (scope_of program called (head_of p.block) (body_of p.block)) false (body_of p.block)
     && are_inner program called called)))
 
--- the first one is the main procedure; what isn't called may be any
+-- the first one is the main procedure, which calls none that jumps out, or any; what isn't called may be any
 abbrev pub has_main : Y.Program → List Y.Procedure → Bool
 has_main program [] = false
-has_main program (p ∷ ps) = is_main program (callable_ones program) p
+has_main program (p ∷ ps) = is_main program (staying_ones program) p || is_main program (callable_ones program) p
 
 abbrev pub is_number_program : Y.Program → Bool
 is_number_program program = are_all_known program.variables && has_main program program.procedures

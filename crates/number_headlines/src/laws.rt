@@ -22,7 +22,9 @@ ghost use Rattle.number_headlines.specs.PairRows.{PairKept};
 ghost use Rattle.number_headlines.specs.PowerRows.{PowerKept};
 ghost use Rattle.number_headlines.specs.PutRows.{SquaresKept};
 ghost use Rattle.number_headlines.specs.ReadRows.{PairsKept};
+ghost use Rattle.number_headlines.specs.QuestRows.{QuestKept};
 ghost use Rattle.number_headlines.specs.Rows.{TotalKept};
+ghost use Rattle.number_headlines.specs.SearchRows.{SearchKept};
 ghost use Rattle.number_headlines.specs.SumRows.{SumKept};
 ghost use Rattle.number_headlines.specs.TextRows.{WordKept};
 
@@ -208,6 +210,22 @@ pub fn holder_kept()
 /// that calls itself and returns from there.
 pub fn begins_kept()
     ensures { BeginsKept }
+{
+    number_headlines_kept();
+}
+
+/// A worked row with jumps: a procedure that calls itself, and in it a function, which leaves all of them for a label of
+/// the main procedure.
+pub fn search_kept()
+    ensures { SearchKept }
+{
+    number_headlines_kept();
+}
+
+/// A worked row with jumps and arguments: a function that calls itself with a parameter, in a loop that counts, until it
+/// leaves all of these for a label.
+pub fn quest_kept()
+    ensures { QuestKept }
 {
     number_headlines_kept();
 }

@@ -72,7 +72,7 @@ use Rattle.number_runs.proofs.Received.{named_told, passable_told, stored_untold
 use Rattle.number_runs.proofs.Variables.{Names, Passable, fixed_is, parameter_is, variable_is, ways_are, ways_many}
 use Rattle.number_runs.proofs.Variables.{ways_of, ways_stored}
 use Rattle.number_runs.proofs.Turns.{telling_same}
-use Rattle.number_runs.proofs.Waiting.{numbers_wait, numbers_without, texts_without}
+use Rattle.number_runs.proofs.Waiting.{numbers_wait, numbers_without, texts_without, bare}
 use Rattle.number_runs.proofs.Based.{through_is}
 use Rattle.number_runs.proofs.Pointed.{compared_does}
 
@@ -494,7 +494,7 @@ mutual
       let t = texts_without (h.texts a.0) in
       alone_does k (Y.NumberOfText x) (text_needs x)
       (text_shows [] k x (text_needs x) t.errors.number
-      (text_does [] (without_given s) k x (numbers_without h) (refl, refl) a.0 a.1))
+      (text_does [] (without_given s) k x (numbers_without h) (bare s) a.0 a.1))
   number_does s k (Y.NumberOfBit x) h is room =
       let a = and_parts s.narrows (is_test s x) is in
       converted_does k x (test_needs x) (test_does s k x h a.1 room)
@@ -502,21 +502,21 @@ mutual
       let a = and_parts s.texts (is_text (without_given s) x) is in
       alone_does k (Y.LengthOf x) (text_needs x)
       (length_measures [] k x (text_needs x)
-      (text_does [] (without_given s) k x (numbers_without h) (refl, refl) a.0 a.1))
+      (text_does [] (without_given s) k x (numbers_without h) (bare s) a.0 a.1))
   number_does s k (Y.IndexOf x y) h is room =
       let g = without_given s in
       let a = and_parts s.texts (is_text g x && is_text g y) is in
       let b = and_parts (is_text g x) (is_text g y) a.1 in
       alone_does k (Y.IndexOf x y) (max (text_needs x) (text_needs y))
-      (index_finds [] k x y (text_needs x) (text_needs y) (text_does [] g k x (numbers_without h) (refl, refl) a.0 b.0)
-      (λ t. text_does (TextEntry t ∷ []) g k y (numbers_without h) (refl, refl) a.0 b.1))
+      (index_finds [] k x y (text_needs x) (text_needs y) (text_does [] g k x (numbers_without h) (bare s) a.0 b.0)
+      (λ t. text_does (TextEntry t ∷ []) g k y (numbers_without h) (bare s) a.0 b.1))
   number_does s k (Y.VerifyOf x y) h is room =
       let g = without_given s in
       let a = and_parts s.texts (is_text g x && is_text g y) is in
       let b = and_parts (is_text g x) (is_text g y) a.1 in
       alone_does k (Y.VerifyOf x y) (max (text_needs x) (text_needs y))
-      (verify_finds [] k x y (text_needs x) (text_needs y) (text_does [] g k x (numbers_without h) (refl, refl) a.0 b.0)
-      (λ t. text_does (TextEntry t ∷ []) g k y (numbers_without h) (refl, refl) a.0 b.1))
+      (verify_finds [] k x y (text_needs x) (text_needs y) (text_does [] g k x (numbers_without h) (bare s) a.0 b.0)
+      (λ t. text_does (TextEntry t ∷ []) g k y (numbers_without h) (bare s) a.0 b.1))
   number_does s k (Y.LowerBound r n) h is room = lower_known s k r n h is
   number_does s k (Y.UpperBound r n) h is room = upper_known s k r n h is
   number_does s k (Y.ElementsOf r n) h is room =
@@ -731,14 +731,14 @@ mutual
       let t = texts_without (h.texts a.0) in
       alone_bit k (Y.BitOfText x) (text_needs x)
       (text_tells [] k x (text_needs x) t.errors.bit
-      (text_does [] (without_given s) k x (numbers_without h) (refl, refl) a.0 a.1))
+      (text_does [] (without_given s) k x (numbers_without h) (bare s) a.0 a.1))
   test_does s k (Y.TextsCompared comparison left right) h is room =
       let g = without_given s in
       let a = and_parts s.texts (is_text g left && is_text g right) is in
       let b = and_parts (is_text g left) (is_text g right) a.1 in
       alone_bit k (Y.TextsCompared comparison left right) (max (text_needs left) (text_needs right))
       (texts_compare [] k comparison left right (text_needs left) (text_needs right)
-      (text_does [] g k left (numbers_without h) (refl, refl) a.0 b.0)
-      (λ t. text_does (TextEntry t ∷ []) g k right (numbers_without h) (refl, refl) a.0 b.1))
+      (text_does [] g k left (numbers_without h) (bare s) a.0 b.0)
+      (λ t. text_does (TextEntry t ∷ []) g k right (numbers_without h) (bare s) a.0 b.1))
   test_does s k (Y.PointersCompared equal left right) h is room = compared_does s k equal left right h is
   test_does s k (Y.OffsetsCompared equal left right) h is room = absurd (cc is)

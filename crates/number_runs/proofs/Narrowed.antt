@@ -21,7 +21,7 @@ use Rattle.number_runs.proofs.Homes.{Coded, Home, act_of, knows, lists_at, paid_
 use Rattle.number_runs.proofs.Narrow.{bit_is, known_narrow, narrow_with_is, precision_is, text_known, text_type_is}
 use Rattle.number_runs.proofs.PointedAssignments.{pointed_assigned}
 use Rattle.text_values.proofs.Assignments.{text_assign_does}
-use Rattle.number_runs.proofs.Waiting.{numbers_without}
+use Rattle.number_runs.proofs.Waiting.{bare, numbers_without}
 
 -- a number into one of so many bits: it is tested
 number_narrowed :
@@ -101,7 +101,7 @@ text_narrowed h labels target x line index includes is may one two fits =
       statement = l;
       paid = paid_for h (Y.Assign (whole w.spot) (Y.StoredText x) line) index l;
     })
-    (text_does [] (without_given s) k x (numbers_without (knows h labels line includes)) (refl, refl) may two))
+    (text_does [] (without_given s) k x (numbers_without (knows h labels line includes)) (bare h.scope) may two))
 
 -- a variable or an element
 either_number :

@@ -82,7 +82,8 @@ item_goes s u (Y.PutValue (Y.TextValue x)) a h shown fits knows numbers =
     let b = and_parts s.texts (is_text (without_calls s) x) h in
     text_goes u a (λ some place. ((knows place).texts b.0).errors.number) x
     (λ place. more_text (within place (setting_in u)) (text_needs x) u.need x fits
-    (text_does [] (without_calls s) (within place (setting_in u)) x (knows place) (refl, refl) b.0 b.1))
+    (text_does [] (without_calls s) (within place (setting_in u)) x (knows place)
+    (refl, refl, λ level n is. absurd (cc is)) b.0 b.1))
 item_goes s u (Y.PutValue (Y.BitValue x)) a h shown fits knows numbers = absurd (cc h)
 item_goes s u (Y.PutValue (Y.PointerValue x)) a h shown fits knows numbers = absurd (cc h)
 item_goes s u (Y.PutValue (Y.OffsetValue area x)) a h shown fits knows numbers = absurd (cc h)
@@ -339,7 +340,7 @@ puts_known s k most b u variables arrays narrows parameters codes constants list
             texts = λ may.
                 texts_end (without_calls s) h (unraised_placed k place most u)
                 (λ bytes named. constant_placed k place bytes (constants may bytes named))
-                (λ entries level n is. absurd (cc is));
+                (λ entries may level n is. absurd (cc is));
             given = λ may. absurd (cc may);
           };
       error = λ words may place labels line.

@@ -55,6 +55,7 @@ use Rattle.number_runs.proofs.Taking.{Fits, list_takes, scalar_takes}
 use Rattle.number_runs.proofs.Taking.{sets_two, subscript_takes}
 use Rattle.number_runs.proofs.Taking.{through_takes, unlocated_takes, whole_takes}
 use Rattle.number_runs.proofs.Variables.{behind_number, sets_number}
+use Rattle.number_runs.proofs.Waiting.{bare}
 
 -- where nothing is located
 subscripts_front : (n p : ℕ) (t a : Taken) → Sets n p t a → Sets n (max 0 p) t (most_taken t a)
@@ -205,21 +206,21 @@ mutual
       (number_taken s left t a.0 (omega (arith, fits))) (number_taken s right (one_more t) a.1 (omega (arith, fits)))
   number_taken s (Y.NumberOfText x) t h fits =
       sets_no_words (text_needs x) t (text_takes t x)
-      (text_taken (without_given s) x t (refl, refl) (and_parts s.texts (is_text (without_given s) x) h).1 fits)
+      (text_taken (without_given s) x t (bare s) (and_parts s.texts (is_text (without_given s) x) h).1 fits)
   number_taken s (Y.NumberOfBit x) t h fits = test_taken s x t (and_parts s.narrows (is_test s x) h).1 fits
   number_taken s (Y.LengthOf x) t h fits =
       sets_no_words (text_needs x) t (text_takes t x)
-      (text_taken (without_given s) x t (refl, refl) (and_parts s.texts (is_text (without_given s) x) h).1 fits)
+      (text_taken (without_given s) x t (bare s) (and_parts s.texts (is_text (without_given s) x) h).1 fits)
   number_taken s (Y.IndexOf x y) t h fits =
       let g = without_given s in
       let a = and_parts (is_text g x) (is_text g y) (and_parts s.texts (is_text g x && is_text g y) h).1 in
-      two_texts_taken x y t (text_taken g x t (refl, refl) a.0 (omega (arith, fits)))
-      (text_taken g y t (refl, refl) a.1 (omega (arith, fits)))
+      two_texts_taken x y t (text_taken g x t (bare s) a.0 (omega (arith, fits)))
+      (text_taken g y t (bare s) a.1 (omega (arith, fits)))
   number_taken s (Y.VerifyOf x y) t h fits =
       let g = without_given s in
       let a = and_parts (is_text g x) (is_text g y) (and_parts s.texts (is_text g x && is_text g y) h).1 in
-      two_texts_taken x y t (text_taken g x t (refl, refl) a.0 (omega (arith, fits)))
-      (text_taken g y t (refl, refl) a.1 (omega (arith, fits)))
+      two_texts_taken x y t (text_taken g x t (bare s) a.0 (omega (arith, fits)))
+      (text_taken g y t (bare s) a.1 (omega (arith, fits)))
   number_taken s (Y.LowerBound r n) t h fits = asked_taken s r n t h
   number_taken s (Y.UpperBound r n) t h fits = asked_taken s r n t h
   number_taken s (Y.ElementsOf r n) t h fits =
@@ -340,13 +341,13 @@ mutual
   test_taken s (Y.BitFrom c) t h fits = absurd (cc h)
   test_taken s (Y.BitOfText x) t h fits =
       sets_no_words (text_needs x) t (text_takes t x)
-      (text_taken (without_given s) x t (refl, refl) (and_parts s.texts (is_text (without_given s) x) h).1 fits)
+      (text_taken (without_given s) x t (bare s) (and_parts s.texts (is_text (without_given s) x) h).1 fits)
   test_taken s (Y.TextsCompared comparison left right) t h fits =
       let g = without_given s in
       let both = is_text g left && is_text g right in
       let a = and_parts (is_text g left) (is_text g right) (and_parts s.texts both h).1 in
-      two_texts_taken left right t (text_taken g left t (refl, refl) a.0 (omega (arith, fits)))
-      (text_taken g right t (refl, refl) a.1 (omega (arith, fits)))
+      two_texts_taken left right t (text_taken g left t (bare s) a.0 (omega (arith, fits)))
+      (text_taken g right t (bare s) a.1 (omega (arith, fits)))
   test_taken s (Y.PointersCompared equal left right) t h fits = compared_taken s equal left right t h
   test_taken s (Y.OffsetsCompared equal left right) t h fits = absurd (cc h)
 
@@ -473,7 +474,7 @@ narrowed_taken words s target (Y.StoredText x) h fits =
     let c = and_parts s.texts (is_narrow_with s is_text_type target && is_text g x) h in
     let d = and_parts (is_narrow_with s is_text_type target) (is_text g x) c.1 in
     let a = narrow_taken s is_text_type target (set_aside words) d.0 in
-    let b = text_taken g x (set_aside words) (refl, refl) d.1 (omega (arith, fits)) in
+    let b = text_taken g x (set_aside words) (bare s) d.1 (omega (arith, fits)) in
     let p = b.registers in
     let q = a.registers in
     let u = a.words in
@@ -578,7 +579,7 @@ put_item_taken words s (Y.PutValue (Y.NumberValue precision x)) h fits =
     (number_taken (without_functions s) x (set_aside words) h (omega (arith, fits)))
 put_item_taken words s (Y.PutValue (Y.TextValue x)) h fits =
     sets_no_words (text_needs x) (set_aside words) (text_takes (set_aside words) x)
-    (text_taken (without_calls s) x (set_aside words) (refl, refl) (and_parts s.texts (is_text (without_calls s) x) h).1
+    (text_taken (without_calls s) x (set_aside words) (refl, refl, λ level n is. absurd (cc is)) (and_parts s.texts (is_text (without_calls s) x) h).1
     (omega (arith, fits)))
 put_item_taken words s (Y.PutValue (Y.BitValue x)) h fits = absurd (cc h)
 put_item_taken words s (Y.PutValue (Y.PointerValue x)) h fits = absurd (cc h)
@@ -643,7 +644,7 @@ get_items_taken words s (Y.GetScalar r ∷ is) h fits =
     let x = reference_taken (without_calls s) r (with_number (set_aside words)) known (omega (arith, fits)) in
     let more = x.registers in
     let same = x.words in
-    let none = reference_unset (without_calls s) r (refl, refl) known in
+    let none = reference_unset (without_calls s) r (refl, refl, λ level n is. absurd (cc is)) known in
     takes_either (suc (reference_needs r)) (get_items_need is) (set_aside words)
     (reference_takes (with_number (set_aside words)) r) (get_items_take (set_aside words) is)
     (record { registers = omega (arith, more); words = omega (arith, same, none) })

@@ -79,7 +79,8 @@ condition_unset s None none h = refl
 condition_unset s (Some x) none h = test_unset s x none h
 
 item_unset : (s : Scope) (i : Y.PutItem) → IsBare s → is_put_item s i ≡ true → put_item_sets i ≡ 0
-item_unset s (Y.PutValue (Y.NumberValue precision x)) none h = number_unset (without_functions s) x (refl, none.1) h
+item_unset s (Y.PutValue (Y.NumberValue precision x)) none h =
+    number_unset (without_functions s) x (refl, none.1, λ level n is. absurd (cc is)) h
 item_unset s (Y.PutValue (Y.TextValue x)) none h = refl
 item_unset s (Y.PutValue (Y.BitValue x)) none h = refl
 item_unset s (Y.PutValue (Y.PointerValue x)) none h = refl

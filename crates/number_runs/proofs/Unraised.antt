@@ -34,7 +34,8 @@ errors_end z u =
 
 waiting_ends :
     (s : Scope) (z : Setting) → IsUnraised z.block z.most →
-    ((level n : ℕ) → s.is_function level n ≡ true → L.Does z 0 (call_number level n)) → KnowsWaiting s z
+    (s.waits ≡ true → (level n : ℕ) → s.is_function level n ≡ true → L.Does z 0 (call_number level n)) →
+    KnowsWaiting s z
 waiting_ends s z u functions =
     record {
       overflow = λ may. overflow_ends z (record {
@@ -77,7 +78,7 @@ unraised_waits k entries most u =
 -- around an expression
 pub texts_end :
     (s : Scope) (z : Setting) → IsUnraised z.block z.most → KnowsConstants z.block →
-    ((entries : List Entry) (level n : ℕ) → s.is_function level n ≡ true →
+    ((entries : List Entry) → s.waits ≡ true → (level n : ℕ) → s.is_function level n ≡ true →
     L.Does (over entries z) 0 (call_number level n)) → KnowsTexts s z
 texts_end s z u constants functions =
     record {
@@ -90,7 +91,7 @@ texts_end s z u constants functions =
 -- and around the statements of a block
 pub around_texts_end :
     (s : Scope) (k : Block) (own : List Label) (most : ℕ) → IsUnraised k most → KnowsConstants k →
-    ((words : ℕ) → MayBeSet s words → (line : ℕ) (entries : List Entry) (level n : ℕ) →
+    (s.waits ≡ true → (words : ℕ) → MayBeSet s words → (line : ℕ) (entries : List Entry) (level n : ℕ) →
     s.is_function level n ≡ true →
     L.Does (setting_around words (waiting entries k) [] line most) 0 (call_number level n)) →
     KnowsAroundTexts s k own most
@@ -100,5 +101,5 @@ around_texts_end s k own most u constants functions =
       errors = λ words set labels line includes. errors_end (setting_around words k labels line most) u;
       waits = λ words set line entries.
           waiting_ends s (setting_around words (waiting entries k) [] line most) (unraised_waits k entries most u)
-          (functions words set line entries);
+          (λ may. functions may words set line entries);
     }

@@ -1,5 +1,5 @@
 -- What is known around expressions is known while texts wait.
-use Rattle.std.proofs.Common.{◌≡◌, List, [], ◌++◌, sym, ap, ◌∙◌, subst}
+use Rattle.std.proofs.Common.{◌≡◌, List, [], ◌++◌, sym, ap, ◌∙◌, subst, refl}
 use Rattle.std.proofs.lemmas.List.{append_assoc}
 use Rattle.pli_typing.specs.TypedTree as Y
 use Rattle.pli_serving.specs.ServiceState.{Entry}
@@ -102,7 +102,7 @@ numbers_wait {s} {k} entries none h t =
       narrows = λ may x is. narrow_waits k.block entries x (type_known s x) (h.narrows may x is);
       parameters = λ x is. parameter_waits k.block entries x (h.parameters x is);
       codes = h.codes;
-      functions = w.functions;
+      functions = λ level n is. w.functions (none.2 level n is) level n is;
       texts = λ may. texts_wait entries t;
       given = λ may. absurd (cc (sym none.0 ∙ (and_parts s.gives s.counts may).0));
       pointers = λ may. absurd (cc (sym none.1 ∙ may));
@@ -110,14 +110,17 @@ numbers_wait {s} {k} entries none h t =
     }
 
 -- where calls have no arguments as much is known
+pub bare : (s : Scope) → IsBare (without_given s)
+bare s = (refl, refl, λ level n is. (and_parts s.waits (s.is_function level n) is).0)
+
 pub waiting_without : {s : Scope} {k : Setting} → KnowsWaiting s k → KnowsWaiting (without_given s) k
-waiting_without h =
+waiting_without {s} h =
     record {
       overflow = h.overflow;
       divisor = h.divisor;
       subscript = h.subscript;
       errors = h.errors;
-      functions = h.functions;
+      functions = λ may level n is. h.functions may level n (and_parts s.waits (s.is_function level n) is).1;
     }
 
 pub texts_without : {s : Scope} {k : Setting} → KnowsTexts s k → KnowsTexts (without_given s) k
@@ -129,7 +132,7 @@ texts_without h =
     }
 
 pub numbers_without : {s : Scope} {k : Setting} → KnowsNumbers s k → KnowsNumbers (without_given s) k
-numbers_without h =
+numbers_without {s} h =
     record {
       begun = h.begun;
       overflow = h.overflow;
@@ -140,7 +143,7 @@ numbers_without h =
       narrows = h.narrows;
       parameters = h.parameters;
       codes = h.codes;
-      functions = h.functions;
+      functions = λ level n is. h.functions level n (and_parts s.waits (s.is_function level n) is).1;
       texts = λ may. texts_without (h.texts may);
       given = λ may. absurd (cc may);
       pointers = λ may. absurd (cc may);

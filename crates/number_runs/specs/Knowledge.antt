@@ -107,13 +107,15 @@ pub record KnowsErrors (k : Setting) : Type 0 where
   pub number : ErrorComes ℤ k
   pub bit : ErrorComes Bool k
 
--- what is known there is known while texts wait: raises and calls without arguments do what they mean
+-- what is known there is known while texts wait: raises and calls without arguments do what they mean, if there may be
+-- any
 pub record KnowsWaiting (s : Scope) (k : Setting) : Type 0 where
   pub overflow : s.overflows ≡ true → OverflowComes k
   pub divisor : s.divides ≡ true → ZeroDivideComes k
   pub subscript : s.elements ≡ true → SubscriptComes k
   pub errors : KnowsErrors k
-  pub functions : (level n : ℕ) → s.is_function level n ≡ true → L.Does k 0 (call_number level n)
+  pub functions :
+      s.waits ≡ true → (level n : ℕ) → s.is_function level n ≡ true → L.Does k 0 (call_number level n)
 
 -- the bytes of each text constant that has a place are told there
 abbrev pub KnowsConstants : Block → Type 0

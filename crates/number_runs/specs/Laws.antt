@@ -83,7 +83,7 @@ pub record BodiesDo : Type 0 where
   -- and texts may wait, if functions are called above them
   pub texts :
       (s : Scope) (k : Block) (own : List Label) (most : ℕ) → IsUnraised k most → KnowsConstants k →
-      ((words : ℕ) → MayBeSet s words → (line : ℕ) (entries : List Entry) (level n : ℕ) →
+      (s.waits ≡ true → (words : ℕ) → MayBeSet s words → (line : ℕ) (entries : List Entry) (level n : ℕ) →
       s.is_function level n ≡ true →
       L.Does (setting_around words (waiting entries k) [] line most) 0 (call_number level n)) →
       KnowsAroundTexts s k own most

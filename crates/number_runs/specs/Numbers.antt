@@ -32,6 +32,8 @@ pub record Names : Type 0 where
   pub is_given_procedure : (count level number : ℕ) → Bool
   pub locates : Bool
   pub pointers : List BlockPlace
+  pub waits : Bool
+  pub is_outer : ℕ → Label → Bool
   pub returns : Bool
   pub is_begin : Y.BlockHead → Y.Stmts → Bool
 
@@ -46,6 +48,8 @@ no_names =
       is_given_procedure = λ count level number. false;
       locates = false;
       pointers = [];
+      waits = false;
+      is_outer = λ level label. false;
       returns = false;
       is_begin = λ head body. false;
     }
@@ -75,8 +79,9 @@ pub record Scope : Type 0 where
   pub reads : Bool
   -- whether they may name scalars of fewer bits, and bits
   pub narrows : Bool
-  -- whether they may have texts
+  -- whether they may have texts, and whether functions may be called while these wait
   pub texts : Bool
+  pub waits : Bool
   -- whether expressions may raise FIXEDOVERFLOW, and ZERODIVIDE
   pub overflows : Bool
   pub divides : Bool
@@ -108,6 +113,8 @@ inside s head body =
       is_given_procedure = (s.inner head body).is_given_procedure;
       locates = (s.inner head body).locates;
       pointers = (s.inner head body).pointers;
+      waits = (s.inner head body).waits;
+      is_outer = (s.inner head body).is_outer;
       returns = (s.inner head body).returns;
       is_begin = (s.inner head body).is_begin;
     }
@@ -316,12 +323,15 @@ gives_lists s = s.gives && s.counts
 abbrev pub without_located : Scope → Scope
 without_located s = record s { locates = false }
 
--- while texts wait calls have no arguments, either
+-- while texts wait calls have no arguments, either, and there are none where functions may not be called then
 abbrev pub without_given : Scope → Scope
-without_given s = record s { gives = false; locates = false }
+without_given s =
+    record s { gives = false; locates = false; is_function = λ level number. s.waits && s.is_function level number }
 
 abbrev pub IsBare : Scope → Type 0
-IsBare s = (s.gives ≡ false) × (s.locates ≡ false)
+IsBare s =
+    (s.gives ≡ false) × (s.locates ≡ false)
+    × ((level number : ℕ) → s.is_function level number ≡ true → s.waits ≡ true)
 
 -- of FIXED BINARY
 abbrev pub is_precision : ℕ → Bool

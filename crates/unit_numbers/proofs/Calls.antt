@@ -46,11 +46,11 @@ use Rattle.unit_numbers.proofs.Homes.{Home, IsHome'}
 use Rattle.unit_numbers.proofs.Inner.{Inner, inner_is, inner_set}
 use Rattle.unit_numbers.proofs.Mains.{Main, most_for, run_for}
 use Rattle.unit_numbers.proofs.Named.{Moment, are_made, bare_block, entered_at}
-use Rattle.unit_numbers.proofs.NestedJumps.{nested_jump_call_does, nested_jump_function_does}
 use Rattle.unit_numbers.proofs.Established.{entry_low}
 use Rattle.unit_numbers.proofs.Raised.{around_for}
 use Rattle.unit_numbers.proofs.Hosts.{Part}
 use Rattle.unit_numbers.proofs.Scenes.{Carries, EachBody, IsAt, block_of, carries_more, scope_of}
+use Rattle.number_headlines.proofs.NestedJumps.{nested_jump_call_does, nested_jump_function_does}
 
 -- the frame of what is called has room
 frame_fits :

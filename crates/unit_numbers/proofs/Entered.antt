@@ -52,7 +52,8 @@ use Rattle.unit_numbers.proofs.Homes.{Home, world_of}
 use Rattle.unit_numbers.proofs.Hosts.{InForceBelow, IsNext, Part, force_next, in_force_below}
 use Rattle.unit_numbers.proofs.Inner.{Inner, inner_held, inner_ons, inner_set}
 use Rattle.unit_numbers.proofs.Mains.{Main}
-use Rattle.unit_numbers.proofs.Outer.{block_saves, frame_top, made_stacks}
+use Rattle.number_headlines.proofs.CalledLandings.{made_stacks}
+use Rattle.unit_numbers.proofs.Outer.{block_saves, frame_top}
 use Rattle.unit_numbers.proofs.Named.{DontPass, Moment, are_made, bare_block, begun_room, called_scope, each_array}
 use Rattle.unit_numbers.proofs.Named.{each_narrow, each_number, entered_at, made_idle, nested_by}
 use Rattle.unit_numbers.proofs.Scenes.{Carries, IsEntered, block_of, may_host}

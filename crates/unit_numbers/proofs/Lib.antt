@@ -11,7 +11,6 @@ pub mod Established
 pub mod Puts
 pub mod Routines
 pub mod Divides
-pub mod NestedJumps
 pub mod Homes
 pub mod Hosts
 pub mod Scenes

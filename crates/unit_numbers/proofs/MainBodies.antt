@@ -53,7 +53,8 @@ use Rattle.unit_numbers.proofs.Past.{alone_parent, main_alone, main_past, past_l
 use Rattle.unit_numbers.proofs.Places.{listed_at}
 use Rattle.unit_numbers.proofs.Puts.{main_told}
 use Rattle.unit_numbers.proofs.Raises.{Knows, knows_of}
-use Rattle.unit_numbers.proofs.Outer.{block_saves, made_stacks}
+use Rattle.number_headlines.proofs.CalledLandings.{made_stacks}
+use Rattle.unit_numbers.proofs.Outer.{block_saves}
 use Rattle.unit_numbers.proofs.Scenes.{IsAt, block_of, scope_of}
 use Rattle.number_runs.specs.Variables.{words_in}
 use Rattle.program_places.proofs.Labels.{label_of}

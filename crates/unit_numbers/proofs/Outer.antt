@@ -23,6 +23,7 @@ use Rattle.program_runs.specs.Variables.{Declared}
 use Rattle.variable_runs.specs.Lists.{all_made, behind_made, layer_behind}
 use Rattle.number_runs.specs.Variables.{HaveRoom, are_plain, bytes_of, is_declared, variable_bytes}
 use Rattle.number_runs.proofs.Declared.{makeable}
+use Rattle.number_headlines.proofs.CalledLandings.{end_place, labels_saved}
 use Rattle.number_headlines.proofs.Tables.{block_plain}
 use Rattle.activation_relation.specs.Points.{Surroundings}
 use Rattle.number_headlines.proofs.Mains.{spare}
@@ -38,31 +39,7 @@ alone_own level bs us = ap (λ q. height_of (cond q (Some one) None)) (eq-eqb le
     one : Activation
     one = record { height = 1; level = level; parent = 0; oncode = 0; bindings = bs; units = us }
 
--- ---- stacks, while variables are made
-
-pub record HasStacks (p q : Point) : Type 0 where
-  pub entries : q.control.entries ≡ p.control.entries
-  pub edits : q.control.edits ≡ p.control.edits
-
-pub made_stacks :
-    (φ : Layer) (xs : List Declared) (p : Point) → HasStacks p (all_made image_parts φ xs p)
-made_stacks φ [] p = record { entries = refl; edits = refl }
-made_stacks φ (x ∷ xs) p =
-    let h = made_stacks (layer_behind image_parts (p.state.serials + 1) φ x) xs (behind_made image_parts φ x p) in
-    record { entries = h.entries; edits = h.edits }
-
 -- ---- where its frame ends
-
-end_place :
-    (parts : MemoryParts) (at : ℕ) (ds : List Y.DeclaredVariable) → are_plain ds ≡ true →
-    at + bytes_of ds ≤ last_place → variable_place parts at ds (length ds) ≡ at + bytes_of ds
-end_place parts at [] h fits = omega arith
-end_place parts at (d ∷ ds) h fits =
-    let a = and_parts (is_declared d) (are_plain ds) h in
-    let frame = (makeable d a.0).frame parts in
-    let next' : min last_place (at + frame_bytes parts d) ≡ at + variable_bytes d = omega (arith, fits, frame) in
-    let rest = end_place parts (at + variable_bytes d) ds a.1 (omega (arith, fits)) in
-    ap (λ n. variable_place parts n ds (length ds)) next' ∙ rest ∙ omega arith
 
 -- behind its variables
 pub frame_top :
@@ -96,16 +73,6 @@ main_top {program} m input acts =
     (main_words m input acts).bare (block_plain program.variables m.head.number m.plain).plain (free m input acts)
 
 -- ---- the registers that it saves: all of them where its list has a label
-
-labels_saved :
-    (program : Y.Program) (label : Label) (body : Y.Stmts) → is_among label (labels_in body) ≡ true →
-    held_registers ≤ stmts_held program body
-labels_saved program label (Y.EndOfList []) e = absurd (cc e)
-labels_saved program label (Y.EndOfList (l ∷ ls)) e = omega arith
-labels_saved program label (Y.StmtThen [] first rest) e =
-    let h = labels_saved program label rest e in
-    omega (arith, h)
-labels_saved program label (Y.StmtThen (l ∷ ls) first rest) e = omega arith
 
 pub block_saves :
     (program : Y.Program) (head : Y.BlockHead) (body : Y.Stmts) (label : Label) →

@@ -49,6 +49,7 @@ use Rattle.unit_numbers.proofs.Divides.{deep_divide_ends, divide_returns}
 use Rattle.unit_numbers.proofs.Homes.{Home, IsHome'}
 use Rattle.unit_numbers.proofs.Hosts.{InForce, Part}
 use Rattle.unit_numbers.proofs.Mains.{Main, most_for}
+use Rattle.number_headlines.proofs.CalledLandings.{made_stacks}
 use Rattle.unit_numbers.proofs.Puts.{settled_writes}
 use Rattle.unit_numbers.proofs.Raised.{Case, Source, part_of, raise_setting, source_of, unit_at, unit_entered}
 use Rattle.unit_numbers.proofs.Raised.{unit_raised}

@@ -163,8 +163,9 @@ pub behind_variables :
     are_plain (variables_of_block program block) ≡ true → Sets need sets none_taken (stmts_take none_taken body) →
     Sets need sets none_taken (block_takes program block body)
 behind_variables s program block need sets body plain x =
-    let n = block_taken (record s { counts = false; gives = false; locates = false }) false program block empty
-    (refl, (refl, refl)) plain refl (omega arith) in
+    let none = record s { counts = false; gives = false; locates = false; is_function = λ level n. false } in
+    let n = block_taken none false program block empty (refl, (refl, refl, λ level n is. absurd (cc is))) plain refl
+    (omega arith) in
     let p = x.registers in
     let u = x.words in
     let v = n.words in

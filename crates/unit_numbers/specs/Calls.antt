@@ -89,6 +89,7 @@ scope_in program ns all caller unit writes =
       divides = not (writes && (is_jumped_to unit all && has_unit C.ZeroDivide all));
       narrows = true;
       texts = false;
+      waits = false;
       elements = true;
       own = not unit;
       is_outer = λ level label.
