@@ -1,5 +1,5 @@
 -- The worked row: all that is premised of the program is computed.
-use Rattle.std.proofs.Common.{◌≡◌, ℕ, ◌+◌, ◌^◌, ◌<◌, ◌≤◌, List, [], ◌∷◌, inl, inr, length, map}
+use Rattle.std.proofs.Common.{◌≡◌, ℕ, suc, ◌+◌, ◌^◌, ◌<◌, ◌≤◌, List, [], ◌∷◌, inl, inr, length, map}
 use Rattle.std.proofs.Common.{Some, refl, arith}
 use Rattle.std.specs.Prelude.{ℤ}
 use Rattle.pli_language.specs.declared.condition.Condition.TheVariants as C
@@ -41,6 +41,7 @@ use Rattle.program_runs.specs.Variables.{Declared}
 use Rattle.program_runs.proofs.Gotos.{goto_does}
 use Rattle.program_runs.proofs.VariableRows.{differs_alone, number_valued}
 use Rattle.expression_runs.specs.Assignments.{IsAssignment, assignment, setting_of}
+use Rattle.expression_runs.specs.Laws as D
 use Rattle.expression_runs.specs.Raises.{IsUnraised, Routines}
 use Rattle.expression_runs.specs.Values.{Setting}
 use Rattle.expression_runs.specs.Variables.{IsNumber}
@@ -58,7 +59,7 @@ use Rattle.test_runs.proofs.Bits.{numbers_tests}
 use Rattle.test_runs.proofs.Ifs.{met_does}
 use Rattle.text_runs.specs.Texts.{IsErrorless}
 use Rattle.text_runs.proofs.Errors.{error_ends}
-use Rattle.edit_runs.specs.Edits.{IsPut, KnowsFormats, within}
+use Rattle.edit_runs.specs.Edits.{IsFixed, IsPut, KnowsFormats, placing, within}
 use Rattle.edit_runs.proofs.DataPuts.{put_does}
 use Rattle.edit_runs.proofs.Places.{begun_placed, errorless_placed, number_placed}
 use Rattle.edit_headlines.proofs.Formats.{list_placed}
@@ -242,8 +243,7 @@ formats_known input acts fs b are has placed =
     list_placed sum_program (sum_block input acts) fs sum_fits
     (main_of_program sum_program (run_of input acts) (sum_block input acts) refl refl refl b) are has placed
 
-read_formats :
-    (input : List ℕ) (acts : ℕ) → IsBegun (sum_block input acts) → KnowsFormats (sum_block input acts) (of_width 4 3)
+read_formats : (input : List ℕ) (acts : ℕ) → IsBegun (sum_block input acts) → KnowsFormats (sum_block input acts) (of_width 4 3)
 unfolding L.formats_move_data
 read_formats input acts b =
     formats_known input acts (of_width 4 3) b ((omega arith, omega arith), ((omega arith, omega arith), tt)) refl refl
@@ -296,8 +296,7 @@ put_is input acts few b =
 
 assigns :
     (input : List ℕ) (acts line index need : ℕ) (source : Y.Number) → acts + 1 < 2 ^ 64 →
-    IsBegun (sum_block input acts) → line < 2 ^ 31 → need ≤ 1 →
-    StandsAt index (coded (assignment sum_spot source line)) →
+    IsBegun (sum_block input acts) → line < 2 ^ 31 → need ≤ 1 → StandsAt index (coded (assignment sum_spot source line)) →
     size_of (coded (assignment sum_spot source line)) + 100 ≤ length (linked_code sum_code) →
     IsAssignment (sum_block input acts) sum_spot source line index need 100
 assigns input acts line index need source few b low room l paid =

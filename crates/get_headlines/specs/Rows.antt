@@ -1,5 +1,5 @@
 -- A worked row: a main procedure that reads numbers, and writes their sum, until it is large enough or the input ends.
-use Rattle.std.specs.Prelude.{ℕ, ◌≡◌, ◌+◌, [], ◌∷◌, None, Some}
+use Rattle.std.specs.Prelude.{ℕ, ◌≡◌, ◌+◌, List, [], ◌∷◌, None, Some}
 use Rattle.pli_language.specs.declared.condition.Condition.TheVariants as C
 use Rattle.pli_language.specs.Tree as T
 use Rattle.pli_typing.specs.TypedTree as Y
@@ -20,7 +20,7 @@ use Rattle.program_runs.specs.Starts.{image_parts, start_of}
 use Rattle.program_runs.specs.Variables.{Declared}
 use Rattle.expression_runs.specs.Assignments.{assignment}
 use Rattle.expression_runs.specs.Variables.{Spot, number_declared, whole}
-use Rattle.edit_runs.specs.Edits.{Put, put_of}
+use Rattle.edit_runs.specs.Edits.{Item, Put, put_of}
 use Rattle.get_runs.specs.Gets.{Get, get_of}
 
 -- ---- the program: DECLARE (X, S) FIXED BINARY(31); S = 0; L: GET EDIT (X) (F(3)); S = S + X;

@@ -1,6 +1,6 @@
 -- An item of GET: control items are carried out, then a field is taken, or ENDFILE is raised where no character is
 -- left, behind which the code goes to the statement's exit.
-use Rattle.std.proofs.Common.{◌≡◌, ℕ, ◌+◌, ◌≤◌, List, [], ◌∷◌, ◌++◌, Option, Some, None, Bool}
+use Rattle.std.proofs.Common.{◌≡◌, ℕ, ◌+◌, ◌<◌, ◌≤◌, List, [], ◌∷◌, ◌++◌, Option, Some, None, Bool, length}
 use Rattle.std.proofs.Common.{true, false, refl, sym, ap, ◌∙◌, subst, arith}
 use Rattle.std.specs.Prelude.{cond, ◌&&◌, ◌==◌}
 use Rattle.rv_meaning.specs.declared.instr.Instr.{Instr}
@@ -8,12 +8,12 @@ use Rattle.rv_meaning.specs.declared.instr.BranchTest.TheVariants as Test
 use Rattle.pli_language.specs.declared.condition.Condition.TheVariants as C
 use Rattle.pli_typing.specs.TypedTree as Y
 use Rattle.pli_meaning.specs.Codes.{endfile_code}
-use Rattle.pli_meaning.specs.Control.{Meaning, act, choose, give, looked, stored, ◌>>=◌, ◌>>◌}
+use Rattle.pli_meaning.specs.Control.{Flow, Meaning, act, choose, give, looked, stored, ◌>>=◌, ◌>>◌}
 use Rattle.pli_meaning.specs.InputLines.{behind_field, has_character}
 use Rattle.pli_meaning.specs.Raising as R
 use Rattle.pli_meaning.specs.StorageState.{State, with_input}
 use Rattle.pli_meaning.specs.Streaming as P
-use Rattle.pli_meaning.specs.Streaming.{DataFormat, DataItem, FixedItem, FormatItem, TextItem}
+use Rattle.pli_meaning.specs.Streaming.{DataFormat, DataItem, Field, FixedItem, FormatItem, TextItem}
 use Rattle.pli_meaning.specs.World.{counted}
 use Rattle.pli_coding.specs.Assembly.{Code, JumpAhead, size_of}
 use Rattle.pli_coding.specs.Environments.{Environment, Taken}
@@ -22,14 +22,14 @@ use Rattle.pli_coding.specs.Instructions.{choice, service, skip_where, small, te
 use Rattle.pli_coding.specs.Registers.{a0, u1}
 use Rattle.pli_coding.specs.Storing.{word_stored}
 use Rattle.pli_coding.specs.Streams as S
-use Rattle.pli_coding.specs.Streams.{controls_carried_out, has_fixed, has_text}
+use Rattle.pli_coding.specs.Streams.{by_item, controls_carried_out, has_fixed, has_text}
 use Rattle.pli_language.specs.Tree as T
 use Rattle.pli_serving.specs.ServiceState.{EditPlace, Services}
 use Rattle.pli_coding.specs.Linking.{Links}
 use Rattle.activation_relation.specs.Points.{Surroundings}
 use Rattle.edit_runs.proofs.Controls.{current}
-use Rattle.activation_relation.specs.Layers.{services_of}
-use Rattle.run_steps.specs.Bodies.{Known}
+use Rattle.activation_relation.specs.Layers.{Point, services_of}
+use Rattle.run_steps.specs.Bodies.{Free, Known}
 use Rattle.run_steps.proofs.Bodies.{zero_is}
 use Rattle.run_steps.specs.Engine.{Base, address}
 use Rattle.run_steps.specs.Items.{At, Linked}
@@ -46,12 +46,12 @@ use Rattle.block_runs.proofs.PointGrounds.{in_known, known_in, point_frame, poin
 use Rattle.program_runs.specs.Statements.{set_aside}
 use Rattle.program_runs.proofs.JumpsOut.{jumps_since}
 use Rattle.expression_runs.proofs.Words.{frame_of, valued}
-use Rattle.edit_runs.specs.Edits.{IsItem, kinds_of, within}
-use Rattle.edit_runs.proofs.Places.{jumps_down}
-use Rattle.get_runs.specs.Gets.{IsTarget, behind_aims, endfile_raised}
+use Rattle.edit_runs.specs.Edits.{AreItems, IsItem, kinds_of, placing, within}
+use Rattle.edit_runs.proofs.Places.{jumps_down, over_place}
+use Rattle.get_runs.specs.Gets.{IsTarget, behind_aims, endfile_raised, getting}
 use Rattle.get_runs.proofs.Controls.{Found, Loop, found_aims, next_comes, number_in}
-use Rattle.get_runs.proofs.Fields.{IsNext, Next, Stands, field_code, field_text, place_of, reach_more}
-use Rattle.get_runs.proofs.Fields.{taken_aims, taken_closed, taking_comes}
+use Rattle.get_runs.proofs.Fields.{IsNext, Next, Stands, field_code, field_text, kept_aims, place_of, reach_more}
+use Rattle.get_runs.proofs.Fields.{stored_code, taken_aims, taken_closed, taking_comes}
 use Rattle.get_runs.proofs.Items.{AreRead, Due, IsDue, Reads, got_aims, got_closed, setting_in, whole_in}
 
 -- ---- behind the control items
@@ -312,8 +312,7 @@ item_is u a behind r typed =
     ap (awaited behind) (field_is u.block.environment (set_aside u.words) u.formats r a.fixed a.text typed)
 
 regrouped :
-    {links : Links} {code : List Instr} {i : ℕ} (behind : ℕ) (field : Code) →
-    Linked links code i (awaited behind field) →
+    {links : Links} {code : List Instr} {i : ℕ} (behind : ℕ) (field : Code) → Linked links code i (awaited behind field) →
     Linked links code i (controls_carried_out ++ (choosing (size_of field + behind) ++ field))
 regrouped behind field l = l
 
@@ -347,8 +346,7 @@ record IsBehind (u : Reads) (d : Due) (behind wanted i : ℕ) (field : Code) : T
   exit : i + behind ≡ u.exit
 
 found_comes :
-    (u : Reads) → AreRead u → (r : Y.Reference) →
-    ((place : EditPlace) → IsTarget (within place (setting_in u)) u.need r) →
+    (u : Reads) → AreRead u → (r : Y.Reference) → ((place : EditPlace) → IsTarget (within place (setting_in u)) u.need r) →
     (d : Due) (acts' behind wanted i : ℕ) →
     IsBehind u d behind wanted i (plain_field u.block.environment (set_aside u.words) r) → (c : ℕ) (f : Family)
     (v : Services) (next : DataItem × List FormatItem) (s : State) → Found (loop_of u d acts') c f v next s →
@@ -424,8 +422,7 @@ found_comes u a r target d acts' behind wanted i is c f v next s o =
 
 -- from a point where it is due on
 pub item_comes :
-    (u : Reads) → AreRead u → (r : Y.Reference) →
-    ((place : EditPlace) → IsTarget (within place (setting_in u)) u.need r) →
+    (u : Reads) → AreRead u → (r : Y.Reference) → ((place : EditPlace) → IsTarget (within place (setting_in u)) u.need r) →
     (d : Due) (acts' behind wanted i : ℕ) → IsDue u d acts' (size_of (item_code u behind r)) →
     Linked u.block.call.surroundings.links u.block.call.code d.index (item_code u behind r) →
     d.index + size_of (item_code u behind r) ≡ i → i + behind ≡ u.exit →

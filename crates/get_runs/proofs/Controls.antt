@@ -11,7 +11,7 @@ use Rattle.pli_meaning.specs.World.{counted}
 use Rattle.pli_meaning.specs.Streaming as P
 use Rattle.pli_meaning.specs.Streaming.{ControlFormat, ControlItem, DataFormat, DataItem, FixedItem, FormatItem}
 use Rattle.pli_meaning.specs.Streaming.{TextItem, control_read}
-use Rattle.pli_meaning.specs.InputLines.{has_character}
+use Rattle.pli_meaning.specs.InputLines.{Input, has_character}
 use Rattle.pli_serving.specs.Answers.{Answer, Done}
 use Rattle.pli_serving.specs.Edits as E
 use Rattle.pli_serving.specs.Edits.{NextItem}
@@ -450,8 +450,7 @@ is_found :
     (z : Loop) (rest left' : List FormatItem) (item : DataItem) → IsItem z.kinds item → {p : Point}
     (h : frame_of z.block p) → Here z rest p → current (list_of z) rest ≡ DataFormat item ∷ left' →
     AreItems z.kinds left' → (c : ℕ) (f : Family) → c ≤ z.credits + 5 →
-    Stands z p h (z.index + 5) (valued (number_in p (DataFormat item))) f →
-    Found z c f (services_of p) (item, left') p.state
+    Stands z p h (z.index + 5) (valued (number_in p (DataFormat item))) f → Found z c f (services_of p) (item, left') p.state
 is_found z rest left' item fits {p} h here is are c f few at =
     record {
       rest = rest;

@@ -1,5 +1,5 @@
 -- ENDFILE where no unit is in force for it, nor for ERROR: the run ends.
-use Rattle.std.proofs.Common.{ℕ, ◌+◌, ◌<◌, [], ◌∷◌, sym, refl, subst, arith, lit<}
+use Rattle.std.proofs.Common.{◌≡◌, ℕ, ◌+◌, ◌<◌, List, [], ◌∷◌, sym, refl, subst, arith, lit<}
 use Rattle.pli_language.specs.declared.condition.Condition.TheVariants as C
 use Rattle.pli_meaning.specs.StorageState.{force}
 use Rattle.pli_coding.specs.Assembly.{CallTo, RaiseCondition}

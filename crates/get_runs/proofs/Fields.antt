@@ -1,26 +1,30 @@
 -- A field of GET: it is taken, an act, becomes a number or ERROR, and goes to its target.
-use Rattle.std.proofs.Common.{◌≡◌, ℕ, ◌+◌, ◌<◌, ◌≤◌, List, [], ◌∷◌, ◌++◌, Option, Some, None}
-use Rattle.std.proofs.Common.{true, refl, sym, ap, ◌∙◌, subst, arith, lit<}
-use Rattle.std.specs.Prelude.{ℤ}
+use Rattle.std.proofs.Common.{◌≡◌, ℕ, ◌+◌, ◌^◌, ◌<◌, ◌≤◌, List, [], ◌∷◌, ◌++◌, Option, Some, None, Bool}
+use Rattle.std.proofs.Common.{true, false, refl, sym, ap, ◌∙◌, subst, arith, lit<}
+use Rattle.std.specs.Prelude.{ℤ, cond, ◌&&◌, ◌==◌}
+use Rattle.rv_meaning.specs.declared.instr.BranchTest.TheVariants as Test
 use Rattle.rv_meaning.specs.declared.instr.Instr.{Instr}
 use Rattle.rv_meaning.specs.declared.instr.Instr.TheVariants as I
 use Rattle.rv_meaning.specs.Words.{word}
+use Rattle.pli_language.specs.Tree as T
+use Rattle.pli_language.specs.declared.condition.Condition.TheVariants as C
+use Rattle.pli_typing.specs.Signatures.{Fixed}
 use Rattle.pli_typing.specs.TypedTree as Y
-use Rattle.pli_meaning.specs.BasicValues.{BasicNumber}
-use Rattle.pli_meaning.specs.Codes.{conversion_code}
-use Rattle.pli_meaning.specs.Control.{Label, Meaning, act, flow_on, give, given, stored, stuck, ◌>>=◌}
+use Rattle.pli_meaning.specs.BasicValues.{BasicNumber, BasicValue}
+use Rattle.pli_meaning.specs.Codes.{conversion_code, endfile_code}
+use Rattle.pli_meaning.specs.Control.{Flow, Label, Meaning, act, choose, flow_on, give, given, looked, stored, stuck, ◌>>=◌}
 use Rattle.pli_meaning.specs.Control.{◌>>◌}
 use Rattle.pli_meaning.specs.DeclaredShapes.{kind_of}
 use Rattle.pli_meaning.specs.Evaluating.{designated}
 use Rattle.pli_meaning.specs.Executing as M
-use Rattle.pli_meaning.specs.InputLines.{behind_field, field_of, has_character}
+use Rattle.pli_meaning.specs.InputLines.{Input, behind_field, field_of, has_character}
 use Rattle.pli_meaning.specs.Numbers.{is_of_precision}
 use Rattle.pli_meaning.specs.Placing.{element_stored}
 use Rattle.pli_meaning.specs.Raising as R
 use Rattle.pli_meaning.specs.Raising.{Around}
-use Rattle.pli_meaning.specs.StorageState.{State, with_input}
+use Rattle.pli_meaning.specs.StorageState.{State, with_input, with_world}
 use Rattle.pli_meaning.specs.Streaming as P
-use Rattle.pli_meaning.specs.Streaming.{DataFormat, Field, FixedItem, FormatItem, NumberField}
+use Rattle.pli_meaning.specs.Streaming.{DataFormat, Field, FixedItem, FormatItem, NumberField, TextItem}
 use Rattle.pli_meaning.specs.Texts.{number_in_text}
 use Rattle.pli_meaning.specs.World.{counted}
 use Rattle.pli_serving.specs.Answers.{Done, acting}
@@ -28,43 +32,47 @@ use Rattle.pli_serving.specs.Edits as E
 use Rattle.pli_serving.specs.Finding.{Call}
 use Rattle.pli_serving.specs.Outcomes.{bad_unless}
 use Rattle.pli_serving.specs.ServiceState.{EditPlace, Services}
-use Rattle.pli_coding.specs.Assembly.{Code, JumpTo, Plain, RaiseError, size_of}
-use Rattle.pli_coding.specs.Instructions.{service, small, status_tested, tested_service}
-use Rattle.pli_coding.specs.Registers.{a0, a7}
+use Rattle.pli_coding.specs.Assembly.{Code, JumpAhead, JumpTo, Plain, RaiseError, size_of}
+use Rattle.pli_coding.specs.Environments.{Environment, Taken}
+use Rattle.pli_coding.specs.Instructions.{choice, service, skip_where, small, status_tested, tested_service}
+use Rattle.pli_coding.specs.Registers.{a0, a7, held_registers, u1}
 use Rattle.pli_coding.specs.Storing.{word_stored}
+use Rattle.pli_coding.specs.Streams as S
+use Rattle.pli_coding.specs.Streams.{has_fixed, has_text}
 use Rattle.activation_relation.specs.Layers.{Point, services_of}
-use Rattle.run_steps.specs.Bodies.{Known}
+use Rattle.run_steps.specs.Bodies.{Free, Known}
 use Rattle.run_steps.proofs.Bodies.{zero_is}
 use Rattle.run_steps.specs.Calls.{Calling}
 use Rattle.run_steps.proofs.Calls.{acts, called}
 use Rattle.run_steps.specs.Engine.{Base, address, call_at}
 use Rattle.run_steps.specs.Items.{At, Linked}
 use Rattle.run_steps.proofs.Items.{straight}
-use Rattle.run_steps.proofs.Jumps.{back_of, front_of, linked_at, rest_of}
+use Rattle.run_steps.proofs.Jumps.{ahead_piece, back_of, front_of, linked_at, rest_of, skip_passed, skip_taken}
 use Rattle.run_steps.proofs.Linking.{size_append}
 use Rattle.run_steps.specs.Numbers.{IsWide}
-use Rattle.run_steps.specs.Reach.{Aims, Closed, Comes, Family, Reach, before, cost}
-use Rattle.run_steps.proofs.Reach.{before_closed, comes_on, onward, reach_map}
+use Rattle.run_steps.specs.Reach.{Aims, Closed, Comes, Family, Reach, before, cost, reached}
+use Rattle.run_steps.proofs.Reach.{before_closed, comes_on, onward, reach_map, reach_then, reached_holds, stay}
 use Rattle.run_steps.specs.Temporaries.{nothing}
 use Rattle.image_runs.specs.Runs.{Whole}
-use Rattle.block_runs.specs.Machines.{IsIn, limits_of}
+use Rattle.block_runs.specs.Machines.{AreIn, IsIn, limits_of}
 use Rattle.block_runs.proofs.BlockEntries.{small_is}
 use Rattle.block_runs.proofs.CallStatements.{comes_map}
-use Rattle.block_runs.proofs.PointGrounds.{in_known, point_ground}
+use Rattle.block_runs.proofs.PointGrounds.{in_known, known_in, point_frame, point_ground}
 use Rattle.program_runs.specs.Statements.{IsAmong, JumpsTo, set_aside}
-use Rattle.program_runs.proofs.JumpsOut.{jumps_since}
+use Rattle.program_runs.proofs.JumpsOut.{jumps_later, jumps_since}
+use Rattle.expression_runs.specs.Values.{Setting}
 use Rattle.expression_runs.proofs.Assignments.{fit_is}
-use Rattle.expression_runs.proofs.Words.{frame_of}
+use Rattle.expression_runs.proofs.Words.{frame_of, valued}
 use Rattle.text_runs.specs.Texts.{error_aims}
 use Rattle.text_runs.proofs.Lengths.{number_wide}
 use Rattle.text_runs.proofs.TextCalls.{status_none, status_some, two}
 use Rattle.edit_runs.specs.Edits.{AreItems, kinds_of, placing, within}
 use Rattle.edit_runs.proofs.Controls.{current}
 use Rattle.edit_runs.proofs.Places.{edits_among, jumps_down, over_place}
-use Rattle.get_runs.specs.Gets.{IsTarget, behind_aims, getting}
+use Rattle.get_runs.specs.Gets.{IsTarget, behind_aims, endfile_raised, getting}
 use Rattle.get_runs.specs.Reading.{reading}
-use Rattle.get_runs.proofs.Controls.{current_found}
-use Rattle.get_runs.proofs.Items.{AreRead, Reads, got_aims, got_closed, setting_in, whole_in}
+use Rattle.get_runs.proofs.Controls.{Finds, current_found, number_in}
+use Rattle.get_runs.proofs.Items.{AreRead, HasLeft, Reads, got_aims, got_closed, setting_in, whole_in}
 use Rattle.get_runs.proofs.Reading.{reading_among, reading_comes}
 
 -- with more credits than it wants
@@ -279,8 +287,7 @@ number_comes :
     c + size_of (status_tested ++ stored_code u n) ≤ n.wanted →
     i + size_of (status_tested ++ stored_code u n) ≡ n.end →
     Stands u n (taken_point u n) h i
-    (two (λ b. number_first (x b) (number_in_text (field_text n)))
-    (λ b. number_status (number_in_text (field_text n)))) f →
+    (two (λ b. number_first (x b) (number_in_text (field_text n))) (λ b. number_status (number_in_text (field_text n)))) f →
     Comes u.block.call.code c f (services_of (taken_point u n)) (kept_aims u n)
     (P.number_got (setting_in u).around (Some (field_text n)) u.block.call.surroundings.acts (taken_point u n).state)
 unfolding P.number_got give ◌>>=◌
@@ -300,8 +307,7 @@ number_comes u a n is less h c i f x l paid enough end at =
     comes_on w.acts (R.or_error around conversion_code o w.acts q.state) next'
     (status_comes u a n closed refl q h c i f among is.line (front_of status_tested (stored_code u n) l)
     (omega (arith, paid, n0)) x o at
-    (λ c1 f1 v1 height label s j.
-    jumps_since (omega (arith, since)) (jumps_down (place_of u n.left') u.block u.labels j))
+    (λ c1 f1 v1 height label s j. jumps_since (omega (arith, since)) (jumps_down (place_of u n.left') u.block u.labels j))
     (λ z g e at1.
     record {
       to = λ early.

@@ -5,7 +5,8 @@ use Rattle.std.proofs.lemmas.Bool.{le-leb}
 use Rattle.std.specs.Prelude.{Option, nat_le, pos, ◌&&◌}
 use Rattle.rv_meaning.specs.declared.instr.Instr.{Instr}
 use Rattle.rv_meaning.specs.declared.instr.Instr.TheVariants as I
-use Rattle.pli_meaning.specs.Control.{Label, Meaning, act, stored, ◌>>◌}
+use Rattle.pli_typing.specs.TypedTree as Y
+use Rattle.pli_meaning.specs.Control.{Label, Meaning, act, stored, ◌>>=◌, ◌>>◌}
 use Rattle.pli_meaning.specs.Executing as M
 use Rattle.pli_meaning.specs.InputLines.{Input}
 use Rattle.pli_meaning.specs.Raising.{at_line}
@@ -24,7 +25,7 @@ use Rattle.pli_coding.specs.Streams as C
 use Rattle.pli_coding.specs.Streams.{edit_ended, skip_option}
 use Rattle.activation_relation.specs.Frames.{frame_under}
 use Rattle.activation_relation.specs.Layers.{Point, services_of}
-use Rattle.activation_relation.specs.Points.{Stands, Surroundings}
+use Rattle.activation_relation.specs.Points.{AreOver, Stands, Surroundings}
 use Rattle.run_steps.specs.Bodies.{Known}
 use Rattle.run_steps.proofs.Bodies.{constant_piece, zero_is}
 use Rattle.run_steps.specs.Calls.{Calling}
@@ -44,12 +45,12 @@ use Rattle.block_runs.proofs.BlockEntries.{small_is, word_fits, word_is}
 use Rattle.block_runs.proofs.Places.{IsFrame}
 use Rattle.block_runs.proofs.PointActs.{act_comes}
 use Rattle.block_runs.proofs.PointGrounds.{in_known, known_in, point_frame, point_ground}
-use Rattle.program_runs.specs.Statements.{Block, IsAmong, set_aside, size_with, statement_aims}
+use Rattle.program_runs.specs.Statements.{Block, DoesWith, IsAmong, set_aside, size_with, statement_aims}
 use Rattle.program_runs.proofs.Statements.{acted_among}
 use Rattle.program_runs.proofs.Waiting.{over_first}
 use Rattle.expression_runs.specs.Assignments.{setting_around}
 use Rattle.edit_runs.specs.Edits.{IsSkipped}
-use Rattle.get_runs.specs.Gets.{AreListed, GetList, GetsDo, ListsHaveTargets, get_of, get_pairs}
+use Rattle.get_runs.specs.Gets.{AreListed, Get, GetList, GetsDo, IsGet, ListsHaveTargets, get_of, get_pairs}
 use Rattle.get_runs.specs.Reading.{reading}
 use Rattle.get_runs.proofs.Lists.{Around, IsAround, exit_of, lists_come, owed_aims, pairs_code}
 use Rattle.get_runs.proofs.Reading.{reading_among, reading_comes}

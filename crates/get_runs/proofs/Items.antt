@@ -1,6 +1,7 @@
 -- What is aimed at behind an item of GET: the point behind it, or the exit where the input has ended.
-use Rattle.std.proofs.Common.{◌≡◌, ℕ, ◌+◌, ◌^◌, ◌<◌, ◌≤◌, List, ◌∷◌, Option, Some, None, true, false, length}
+use Rattle.std.proofs.Common.{◌≡◌, ℕ, ◌+◌, ◌^◌, ◌<◌, ◌≤◌, List, [], ◌∷◌, Option, Some, None, true, false, length}
 use Rattle.std.specs.Prelude.{ℤ}
+use Rattle.rv_meaning.specs.declared.instr.Instr.{Instr}
 use Rattle.pli_language.specs.Tree as T
 use Rattle.pli_meaning.specs.Control.{Label}
 use Rattle.pli_meaning.specs.StorageState.{State}

@@ -3,7 +3,6 @@ pub mod Controls
 pub mod Items
 pub mod Ends
 pub mod Storing
-pub mod ElementStores
 pub mod Fields
 pub mod Awaiting
 pub mod Lists

@@ -1,8 +1,8 @@
 -- The items of GET one behind the other, and its lists: for each a place begins, its items are read, and it ends; where
 -- the input has ended the code goes to the exit, where the place ends.
 use Rattle.std.proofs.Common.{◌≡◌, ℕ, ◌+◌, ◌^◌, ◌<◌, ◌≤◌, List, [], ◌∷◌, ◌++◌, None, Some, refl, sym, ap, ◌∙◌}
-use Rattle.std.proofs.Common.{subst, arith, lit<, true, false, Bool}
-use Rattle.std.specs.Prelude.{Option, ℤ}
+use Rattle.std.proofs.Common.{subst, arith, lit<, true, false, Bool, length}
+use Rattle.std.specs.Prelude.{Option, ℤ, ⊤}
 use Rattle.rv_meaning.specs.declared.instr.Instr.{Instr}
 use Rattle.rv_meaning.specs.declared.instr.Instr.TheVariants as I
 use Rattle.pli_language.specs.Tree as T
@@ -17,7 +17,7 @@ use Rattle.pli_serving.specs.Answers.{Done}
 use Rattle.pli_serving.specs.Edits as E
 use Rattle.pli_serving.specs.Outcomes.{or_bad}
 use Rattle.pli_serving.specs.ServiceState.{EditPlace, Getting, Services}
-use Rattle.pli_coding.specs.Assembly.{Code, DataPlace, OffsetOf, Plain, size_of}
+use Rattle.pli_coding.specs.Assembly.{Code, DataPlace, JumpAhead, OffsetOf, Plain, size_of}
 use Rattle.pli_coding.specs.Instructions.{small}
 use Rattle.pli_coding.specs.Linking.{place_of}
 use Rattle.pli_coding.specs.Registers.{a0, a1, a7, held_registers}
@@ -34,7 +34,7 @@ use Rattle.image_runs.specs.Runs.{Whole}
 use Rattle.run_steps.specs.Engine.{Base, address, call_at}
 use Rattle.run_steps.specs.Items.{At, Linked}
 use Rattle.run_steps.proofs.Items.{straight}
-use Rattle.run_steps.proofs.Jumps.{ahead_piece, back_of, front_of}
+use Rattle.run_steps.proofs.Jumps.{ahead_piece, back_of, front_of, linked_at}
 use Rattle.run_steps.proofs.Linking.{size_append}
 use Rattle.run_steps.specs.Owing.{owing}
 use Rattle.run_steps.proofs.Owing.{done_owing, owing_closed}
@@ -53,15 +53,13 @@ use Rattle.expression_runs.specs.Assignments.{setting_around}
 use Rattle.expression_runs.proofs.Words.{frame_of}
 use Rattle.text_runs.specs.Texts.{ErrorComes}
 use Rattle.text_runs.proofs.TextCalls.{Asking, asks}
-use Rattle.edit_runs.specs.Edits.{AreItems, KnowsFormats, has_data, kinds_of, placing, within}
+use Rattle.edit_runs.specs.Edits.{AreItems, IsFixed, KnowsFormats, has_data, kinds_of, placing, within}
 use Rattle.edit_runs.specs.Writing.{with_edits}
 use Rattle.edit_runs.proofs.ListKinds.{formats_are}
 use Rattle.edit_runs.proofs.Places.{edits_among, edits_in, over_place}
-use Rattle.get_runs.specs.Gets.{AreListed, AreTargets, EndfileComes, GetList, ListsHaveTargets, get_items, get_pairs}
-use Rattle.get_runs.specs.Gets.{getting}
+use Rattle.get_runs.specs.Gets.{AreListed, AreTargets, EndfileComes, GetList, ListsHaveTargets, get_items, get_pairs, getting}
 use Rattle.get_runs.proofs.Awaiting.{item_code, item_comes}
-use Rattle.get_runs.proofs.Items.{AreRead, Due, HasEnded, HasLeft, IsDue, Reads, ended_later, got_aims, setting_in}
-use Rattle.get_runs.proofs.Items.{whole_in}
+use Rattle.get_runs.proofs.Items.{AreRead, Due, HasEnded, HasLeft, IsDue, Reads, ended_later, got_aims, setting_in, whole_in}
 
 -- ---- items
 
@@ -435,8 +433,7 @@ lists_come x a [] listed targets acts' c wanted i j f {p} {numbers} o at since b
     let h = point_frame o.stands o.image in
     record {
       to = λ early.
-          done_owing (statement_closed k x.labels acts' j wanted x.left') (x.debt + 2) wanted
-          (omega (arith, begun, end))
+          done_owing (statement_closed k x.labels acts' j wanted x.left') (x.debt + 2) wanted (omega (arith, begun, end))
           (ahead_piece {t = λ n. 0} {rs = nothing} c f 2 (omega (arith, inside, end))
           (record { reserved_stay = λ y t. refl; known_stay = λ b y t z. z; set = λ y t. refl }) l
           (λ b. known_in h (there b) tt)) tt p.state

@@ -1,5 +1,5 @@
 -- A FIXED BINARY(31) variable that is read into.
-use Rattle.std.proofs.Common.{◌≡◌, ℕ, ◌+◌, true, refl, sym, ap, ◌∙◌, subst, arith}
+use Rattle.std.proofs.Common.{◌≡◌, ℕ, ◌+◌, Some, true, refl, sym, ap, ◌∙◌, subst, arith}
 use Rattle.std.specs.Prelude.{ℤ, pos, ◌==◌, Option, slice_get, unwrap_or}
 use Rattle.rv_meaning.specs.declared.instr.StoreKind.TheVariants as Store
 use Rattle.rv_meaning.specs.Machine.{value}
@@ -8,7 +8,7 @@ use Rattle.rv_meaning.specs.Words.{word}
 use Rattle.pli_typing.specs.TypedTree as Y
 use Rattle.pli_meaning.specs.DeclaredShapes.{declared_variable}
 use Rattle.pli_meaning.specs.Numbers.{is_of_precision}
-use Rattle.pli_meaning.specs.Streaming.{type_of_first}
+use Rattle.pli_meaning.specs.Streaming.{target_type, type_of_first}
 use Rattle.pli_coding.specs.Assembly.{size_of}
 use Rattle.pli_coding.specs.Environments.{no_declaration}
 use Rattle.pli_coding.specs.Locating.{no_leaf}

@@ -4,7 +4,6 @@ use Rattle.rv_meaning.specs.Machine.{value}
 use Rattle.rv_meaning.specs.Words.{word}
 use Rattle.pli_language.specs.declared.condition.Condition.TheVariants as C
 use Rattle.pli_language.specs.Tree as T
-use Rattle.pli_typing.specs.Signatures.{Bounds}
 use Rattle.pli_typing.specs.TypedTree as Y
 use Rattle.pli_meaning.specs.BasicValues.{BasicNumber}
 use Rattle.pli_meaning.specs.Codes.{endfile_code}
@@ -34,8 +33,6 @@ use Rattle.expression_runs.specs.Assignments.{setting_around}
 use Rattle.expression_runs.specs.Raises.{Routines}
 use Rattle.expression_runs.specs.Values.{HasRegisters, Setting, in_registers}
 use Rattle.expression_runs.specs.Variables.{IsNumber, Spot, whole}
-use Rattle.element_runs.specs.Arrays.{IsArray, element}
-use Rattle.element_runs.specs.Subscripts.{IsSubscript, SubscriptComes}
 use Rattle.text_runs.specs.Texts.{ErrorComes}
 use Rattle.edit_runs.specs.Edits.{IsSkipped, KnowsFormats, has_data, within}
 
@@ -46,8 +43,7 @@ getting whole rest = record { direction = Getting; whole = whole; rest = rest }
 -- ---- behind a part of the statement
 
 -- such a point, with the statement's line
-pub record GoesBehind (k : Block) (acts current index wanted credits : ℕ) (f : Family) (v : Services) (s : State)
-    : Type 0
+pub record GoesBehind (k : Block) (acts current index wanted credits : ℕ) (f : Family) (v : Services) (s : State) : Type 0
   where
     pub goes : GoesOn k acts index wanted credits f v s
     pub line : goes.point.control.line ≡ current
@@ -118,14 +114,6 @@ abbrev pub NumbersStored : Type 0
 NumbersStored =
     (k : Setting) (x : Spot) (need : ℕ) → IsBegun k.block → IsNumber k.block x →
     k.around.program ≡ k.block.environment.program → IsTarget k need (whole x)
-
--- and an element of an array, whose subscript is evaluated while its number waits in a register, if it leaves what it
--- means and ERROR outside the bounds comes to what it means
-abbrev pub ElementsStored : Type 0
-ElementsStored =
-    (k : Setting) (x : Spot) (b : Bounds) (subscript : Y.Number) (need : ℕ) → IsBegun k.block → IsArray k.block x b →
-    SubscriptComes k → IsSubscript k 1 need subscript → k.around.program ≡ k.block.environment.program →
-    IsTarget k need (element x subscript)
 
 -- ---- the statement
 

@@ -1,15 +1,10 @@
 // Laws of the definitions: each function's contract is one law, and calling it does nothing.
 
-ghost use Rattle.get_runs.specs.Gets.{ElementsStored, EndfileEnds, GetsDo, NumbersStored};
+ghost use Rattle.get_runs.specs.Gets.{EndfileEnds, GetsDo, NumbersStored};
 
 /// A FIXED BINARY(31) variable is read into.
 pub fn numbers_stored()
     ensures { NumbersStored }
-{}
-
-/// So is an element of an array, if its subscript does what it means.
-pub fn elements_stored()
-    ensures { ElementsStored }
 {}
 
 /// ENDFILE without a unit in force ends the run.

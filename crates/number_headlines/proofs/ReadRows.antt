@@ -1,5 +1,5 @@
 -- The worked row that reads: it is computed from its tree.
-use Rattle.std.proofs.Common.{◌≡◌, ℕ, zero, suc, ◌≤◌, ◌<◌, [], ◌∷◌, Some, None, refl, ap, subst, inl, inr}
+use Rattle.std.proofs.Common.{◌≡◌, ℕ, zero, suc, ◌≤◌, ◌<◌, List, [], ◌∷◌, Some, None, refl, ap, subst, inl}
 use Rattle.std.proofs.Common.{arith}
 use Rattle.std.specs.Prelude.{cond}
 use Rattle.pli_language.specs.Formats.{Getting, Putting, format_moves_data, formats_move_data}
@@ -25,11 +25,10 @@ use Rattle.well_formed_trees.specs.WellFormed.{SoundProcedure}
 use Rattle.storage_relation.proofs.Holders.{eqb-other}
 use Rattle.run_steps.proofs.Linking.{linked_length}
 use Rattle.expression_runs.specs.Variables.{number_declared, whole}
-use Rattle.element_runs.specs.Arrays.{array_declared, array_leaf}
 use Rattle.pli_headline.specs.Headline.{FitsMemory, parts}
 use Rattle.number_headlines.specs.Headlines.{IsNumberProgram}
-use Rattle.number_headlines.specs.ReadRows.{cell, cell_bounds, first_spot, pairs_body, pairs_head, pairs_main}
-use Rattle.number_headlines.specs.ReadRows.{pairs_program, read_formats, total_formats, total_spot}
+use Rattle.number_headlines.specs.ReadRows.{first_spot, pairs_body, pairs_head, pairs_main, pairs_program, read_formats}
+use Rattle.number_headlines.specs.ReadRows.{second_spot, total_formats, total_spot}
 
 -- ---- it is well formed
 
@@ -59,11 +58,11 @@ first_is = record {
   subscripted = inl refl;
 }
 
-cell_is : Designates in_pairs cell
-cell_is = record {
-  d = array_declared cell_bounds [];
+second_is : Designates in_pairs (whole second_spot)
+second_is = record {
+  d = number_declared [];
   declared = record { found = refl; same_class = refl; block_around = inl (refl, refl) };
-  dimensions = 1;
+  dimensions = 0;
   member = record {
     place = 0;
     dimensions_are = refl;
@@ -71,7 +70,7 @@ cell_is = record {
     some = omega arith;
     within = omega arith;
   };
-  subscripted = inr refl;
+  subscripted = inl refl;
 }
 
 total_is : Designates in_pairs (whole total_spot)
@@ -99,11 +98,11 @@ first_scalar = record {
   many = refl;
 }
 
-cell_scalar : IsScalar in_pairs (Y.FixedLeaf 31) cell
-unfolding cell_is
-cell_scalar = record {
-  designates = cell_is;
-  leaf = array_leaf cell_bounds [];
+second_scalar : IsScalar in_pairs (Y.FixedLeaf 31) (whole second_spot)
+unfolding second_is
+second_scalar = record {
+  designates = second_is;
+  leaf = record { type = Y.FixedLeaf 31; bounds = []; initial = [] };
   one = record { one = refl; leaf_is = refl };
   type_is = refl;
   many = refl;
@@ -122,8 +121,8 @@ total_scalar = record {
 first_number : IsNumberScalar in_pairs (whole first_spot)
 first_number = record { precision = 31; scalar = first_scalar }
 
-cell_number : IsNumberScalar in_pairs cell
-cell_number = record { precision = 31; scalar = cell_scalar }
+second_number : IsNumberScalar in_pairs (whole second_spot)
+second_number = record { precision = 31; scalar = second_scalar }
 
 total_number : IsNumberScalar in_pairs (whole total_spot)
 total_number = record { precision = 31; scalar = total_scalar }
@@ -161,7 +160,7 @@ total_list = record {
 }
 
 pairs_sound : SoundProcedure table pairs_program pairs_main
-unfolding first_is cell_is total_is
+unfolding first_is second_is total_is
 pairs_sound = record {
   head = pairs_head;
   body = pairs_body;
@@ -190,13 +189,7 @@ pairs_sound = record {
                     (
                       ((Y.FixedLeaf 31, first_scalar), ((first_is, refl), (first_is, (tt, (tt, tt))))),
                       (
-                        (
-                          (Y.FixedLeaf 31, cell_scalar),
-                          (
-                            (cell_is, refl),
-                            (cell_is, (tt, (tt, ((first_number, (first_is, (tt, (tt, tt)))), tt)))),
-                          ),
-                        ),
+                        ((Y.FixedLeaf 31, second_scalar), ((second_is, refl), (second_is, (tt, (tt, tt))))),
                         tt,
                       ),
                     ),
@@ -218,7 +211,7 @@ pairs_sound = record {
                         (total_number, (total_is, (tt, (tt, tt)))),
                         (
                           (first_number, (first_is, (tt, (tt, tt)))),
-                          (cell_number, (cell_is, (tt, (tt, ((first_number, (first_is, (tt, (tt, tt)))), tt))))),
+                          (second_number, (second_is, (tt, (tt, tt)))),
                         ),
                       ),
                     ),
@@ -295,30 +288,10 @@ number_sound w index = record {
   evaluations = tt;
 }
 
-cells_sound : (w : Where) → SoundVariable w 1 (array_declared cell_bounds [])
-cells_sound w = record {
-  members = (refl, tt);
-  many = refl;
-  dimensions = (refl, tt);
-  leaves = (
-    record {
-      type_is = (omega arith, omega arith);
-      bounds_are = (((omega arith, omega arith), ((refl, tt), tt)), tt);
-      few = omega arith;
-      initial_is = tt;
-    },
-    tt,
-  );
-  areas = inl (tt, tt);
-  refer = tt;
-  kept = ((λ k. k, (λ e. absurd (cc e), tt)), tt);
-  evaluations = tt;
-}
-
 pairs_declares : (number : ℕ) → DeclaresSound table pairs_program number
 pairs_declares zero around e = tt
 pairs_declares (suc zero) around e =
-    (number_sound _ _, (cells_sound _, (number_sound _ _, tt)))
+    (number_sound _ _, (number_sound _ _, (number_sound _ _, tt)))
 pairs_declares (suc (suc n)) around e = absurd (cc e)
 
 pairs_well : IsWellFormed pairs_program

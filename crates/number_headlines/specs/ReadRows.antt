@@ -1,10 +1,8 @@
 -- A worked row: a program of the class that reads pairs of numbers, each in a line of its own behind a first one that
--- is passed over, with GET SKIP EDIT, the second into the element of an array that the first one names, until the sum
--- of their products is large enough, and writes it.
-use Rattle.std.specs.Prelude.{◌≡◌, [], ◌∷◌, Some, None, pos}
+-- is passed over, with GET SKIP EDIT, until the sum of their products is large enough, and writes it.
+use Rattle.std.specs.Prelude.{ℕ, ◌≡◌, List, [], ◌∷◌, Some, None}
 use Rattle.pli_language.specs.declared.condition.Condition.TheVariants as C
 use Rattle.pli_language.specs.Tree as T
-use Rattle.pli_typing.specs.Signatures.{Bounds}
 use Rattle.pli_typing.specs.TypedTree as Y
 use Rattle.pli_meaning.specs.declared.outcome.End.TheVariants as E
 use Rattle.pli_meaning.specs.Executing.{meaning}
@@ -12,29 +10,22 @@ use Rattle.pli_coding.specs.Images.{picture_of}
 use Rattle.pli_coding.specs.SignatureTable.{table_of}
 use Rattle.expression_runs.specs.Assignments.{assignment}
 use Rattle.expression_runs.specs.Variables.{Spot, number_declared, whole}
-use Rattle.element_runs.specs.Arrays.{array_declared, element}
 use Rattle.pli_headline.specs.Headline.{Headline, parts}
 
--- DECLARE X FIXED BINARY(31), A(12) FIXED BINARY(31), S FIXED BINARY(31); S = 0; DO WHILE (S < 50);
--- GET SKIP EDIT (X, A(X)) (COLUMN(2), 2 (F(2), X(1))); S = S + X * A(X); END; GET SKIP; PUT EDIT (S) (F(5));
+-- DECLARE (X, Y, S) FIXED BINARY(31); S = 0; DO WHILE (S < 50); GET SKIP EDIT (X, Y) (COLUMN(2), 2 (F(2), X(1)));
+-- S = S + X * Y; END; GET SKIP; PUT EDIT (S) (F(5));
 
 abbrev pub first_spot : Spot
 first_spot = record { block = 1; level = 0; index = 0 }
 
-abbrev pub cells_spot : Spot
-cells_spot = record { block = 1; level = 0; index = 1 }
+abbrev pub second_spot : Spot
+second_spot = record { block = 1; level = 0; index = 1 }
 
 abbrev pub total_spot : Spot
 total_spot = record { block = 1; level = 0; index = 2 }
 
 abbrev pub value_of : Spot → Y.Number
 value_of x = Y.NumberIn (whole x)
-
-abbrev pub cell_bounds : Bounds
-cell_bounds = record { lower = pos 1; upper = pos 12 }
-
-abbrev pub cell : Y.Reference
-cell = element cells_spot (value_of first_spot)
 
 abbrev pub read_formats : T.Formats
 read_formats =
@@ -49,7 +40,7 @@ abbrev pub pairs_get : Y.Stmt
 pairs_get =
     Y.Get (Some 1)
     (record {
-      items = Y.GetScalar (whole first_spot) ∷ Y.GetScalar cell ∷ [];
+      items = Y.GetScalar (whole first_spot) ∷ Y.GetScalar (whole second_spot) ∷ [];
       formats = read_formats;
     }
     ∷ []) 5
@@ -57,7 +48,7 @@ pairs_get =
 abbrev pub pairs_sum : Y.Number
 pairs_sum =
     Y.Calculated Y.Sum (value_of total_spot)
-    (Y.Calculated Y.Product (value_of first_spot) (Y.NumberIn cell))
+    (Y.Calculated Y.Product (value_of first_spot) (value_of second_spot))
 
 abbrev pub pairs_turns : Y.Stmts
 pairs_turns = Y.StmtThen [] pairs_get (Y.StmtThen [] (assignment total_spot pairs_sum 6) (Y.EndOfList []))
@@ -88,7 +79,7 @@ pairs_main = record { block = Y.BlockOf pairs_head pairs_body; parameters = []; 
 abbrev pub pairs_program : Y.Program
 pairs_program =
     record {
-      variables = [] ∷ (number_declared [] ∷ array_declared cell_bounds [] ∷ number_declared [] ∷ []) ∷ [];
+      variables = [] ∷ (number_declared [] ∷ number_declared [] ∷ number_declared [] ∷ []) ∷ [];
       procedures = pairs_main ∷ [];
     }
 

@@ -1,6 +1,6 @@
 -- GET SKIP, and GET EDIT of numbers, do what they mean.
-use Rattle.std.proofs.Common.{◌≡◌, ℕ, suc, ◌+◌, ◌≤◌, List, [], ◌∷◌, ◌++◌, true, false, refl, sym, ap, ◌∙◌, subst}
-use Rattle.std.proofs.Common.{arith, inl}
+use Rattle.std.proofs.Common.{◌≡◌, ℕ, ◌+◌, ◌<◌, ◌≤◌, List, [], ◌∷◌, ◌++◌, true, false, refl, sym, ap, ◌∙◌, subst}
+use Rattle.std.proofs.Common.{arith, inl, inr, ◌⊎◌}
 use Rattle.std.specs.Prelude.{ℤ, ◌&&◌, ◌||◌, Bool, not, Option}
 use Rattle.std.proofs.lemmas.Bool.{and_parts}
 use Rattle.pli_language.specs.declared.condition.Condition.TheVariants as C
@@ -9,13 +9,14 @@ use Rattle.pli_typing.specs.TypedTree as Y
 use Rattle.pli_meaning.specs.Control.{Label}
 use Rattle.pli_meaning.specs.StorageState.{force}
 use Rattle.pli_coding.specs.Allocating.{act_code}
-use Rattle.pli_coding.specs.Assembly.{size_of}
+use Rattle.pli_coding.specs.Assembly.{Code, size_of}
 use Rattle.pli_coding.specs.Registers.{held_registers}
 use Rattle.pli_coding.specs.Statements.{stmt_code}
 use Rattle.pli_coding.specs.StaticForms.{formats_datum}
 use Rattle.pli_coding.specs.Streams as S
 use Rattle.pli_coding.specs.Streams.{edit_ended, has_fixed, has_text}
 use Rattle.activation_relation.specs.ServiceLaws.{IsSystem}
+use Rattle.run_steps.specs.DataNamed.{IsPlaced}
 use Rattle.run_steps.specs.Items.{Linked}
 use Rattle.run_steps.specs.Reach.{cost}
 use Rattle.run_steps.proofs.Jumps.{back_of, front_of}
@@ -25,17 +26,14 @@ use Rattle.expression_runs.specs.Values.{Setting}
 use Rattle.text_runs.proofs.Errors.{error_ends}
 use Rattle.edit_runs.specs.Edits.{within}
 use Rattle.get_runs.specs.Gets.{AreListed, AreTargets, Get, GetList, IsOfNumbers, IsTarget, ListsHaveTargets, get_items}
-use Rattle.get_runs.specs.Gets.{get_pairs}
-use Rattle.get_runs.proofs.ElementStores.{element_target}
+use Rattle.get_runs.specs.Gets.{get_of, get_pairs}
 use Rattle.get_runs.proofs.Ends.{endfile_ends}
 use Rattle.get_runs.proofs.Gets.{get_does}
 use Rattle.get_runs.proofs.Storing.{number_target}
-use Rattle.number_runs.specs.Gets.{are_get_items, are_get_pairs, get_items_need, get_needs, is_get, is_target}
-use Rattle.number_runs.specs.Knowledge.{IsUnraised, KnowsLists, KnowsNumbers, KnowsPuts, KnowsReads, MayBeSet}
-use Rattle.number_runs.specs.Numbers.{Scope, bounds_known, is_element, is_number, is_wider, reference_needs}
-use Rattle.number_runs.specs.Puts.{are_formats, is_list, is_skip, without_calls}
-use Rattle.number_runs.proofs.Arrays.{element_is, subscript_given}
-use Rattle.number_runs.proofs.Expressions.{number_does}
+use Rattle.number_runs.specs.Gets.{are_get_items, are_get_pairs, is_get, is_get_item}
+use Rattle.number_runs.specs.Knowledge.{IsUnraised, KnowsLists, KnowsPuts, KnowsReads, MayBeSet}
+use Rattle.number_runs.specs.Numbers.{Scope, is_variable}
+use Rattle.number_runs.specs.Puts.{are_formats, is_list, is_skip}
 use Rattle.number_runs.proofs.Formats.{list_is}
 use Rattle.number_runs.proofs.Puts.{skip_is}
 use Rattle.number_runs.proofs.Variables.{variable_is}
@@ -58,7 +56,7 @@ targets_are : (s : Scope) (is : List Y.GetItem) → are_get_items s is ≡ true 
 unfolding targets_of
 targets_are s [] h = refl
 targets_are s (Y.GetScalar r ∷ is) h =
-    ap (λ js. Y.GetScalar r ∷ js) (targets_are s is (and_parts (is_target s r) (are_get_items s is) h).1)
+    ap (λ js. Y.GetScalar r ∷ js) (targets_are s is (and_parts (is_variable s r) (are_get_items s is) h).1)
 targets_are s (Y.GetAggregate r ∷ is) h = absurd (cc h)
 
 -- the parts of one list
@@ -88,8 +86,7 @@ numbers_are : (fs : T.Formats) → is_list fs ≡ true → not (has_text fs) ≡
 numbers_are fs list none =
     let text = not_is (has_text fs) none in
     record {
-      fixed =
-          fixed_by (has_fixed fs) (has_text fs) (and_parts (are_formats fs) (has_fixed fs || has_text fs) list).1 text;
+      fixed = fixed_by (has_fixed fs) (has_text fs) (and_parts (are_formats fs) (has_fixed fs || has_text fs) list).1 text;
       text = text;
       some = (list_is fs list).some;
     }
@@ -100,7 +97,6 @@ pub record HasGet (words : ℕ) (s : Scope) (k : Block) (skip : Option ℕ) (pai
   where
     pub act : HasAct k line
     pub may : MayBeSet s words
-    pub registers : get_needs pairs ≤ k.registers
     pub held : k.registers ≤ held_registers
     pub statement :
         Linked k.call.surroundings.links k.call.code index
@@ -125,56 +121,35 @@ lists_listed words s k knows (p ∷ ps) i h l =
       lists_listed words s k knows ps (i + size_of one) a.1 (back_of one rest l),
     )
 
--- a variable, or an element of an array
-target_is :
-    (s : Scope) (u : Setting) (need : ℕ) (r : Y.Reference) → KnowsNumbers (without_calls s) u →
-    u.around.program ≡ u.block.environment.program → is_target s r ≡ true → suc (reference_needs r) ≤ need →
-    IsTarget u need r
-target_is s u need (Y.Referring v Y.NotLocated part Y.NoNumber) n same h fits =
-    let w = variable_is s (Y.Referring v Y.NotLocated part Y.NoNumber) h in
-    subst (IsTarget u need) (sym w.is) (number_target u w.spot need n.begun (n.variables w.spot w.known) same)
-target_is s u need (Y.Referring v Y.NotLocated part (Y.NumberThen subscript Y.NoNumber)) n same h fits =
-    let q = without_calls s in
-    let a = and_parts (is_element s v part) (is_number q subscript && is_wider q subscript) h in
-    let w = element_is q v part subscript a.0 in
-    let number = (and_parts (is_number q subscript) (is_wider q subscript) a.1).0 in
-    subst (IsTarget u need) (sym w.is)
-    (element_target u w.spot (bounds_known q w.spot) subscript need n.begun (n.arrays w.may w.spot w.known)
-    (n.subscript w.may)
-    (subscript_given q u 1 need subscript n a.1 (omega (arith, fits))
-    (number_does q u subscript n number (λ may. absurd (cc may))))
-    same)
-target_is s u need (Y.Referring v Y.NotLocated part (Y.NumberThen first (Y.NumberThen second rest))) n same h fits =
-    absurd (cc h)
-target_is s u need (Y.Referring v (Y.LocatedBy p) part subscripts) n same h fits = absurd (cc h)
-
 items_targeted :
-    (words : ℕ) (s : Scope) (k : Block) (labels : List Label) (line need most : ℕ) → MayBeSet s words →
-    KnowsPuts s k most → KnowsReads s k most → (is : List Y.GetItem) → are_get_items s is ≡ true →
-    get_items_need is ≤ need → AreTargets (setting_around words k labels line most) need (targets_of is)
+    (words : ℕ) (s : Scope) (k : Block) (labels : List Label) (line most : ℕ) → MayBeSet s words → KnowsPuts s k most →
+    KnowsReads s k most → (is : List Y.GetItem) → are_get_items s is ≡ true →
+    AreTargets (setting_around words k labels line most) 0 (targets_of is)
 unfolding targets_of
-items_targeted words s k labels line need most may writes reads [] h fits = tt
-items_targeted words s k labels line need most may writes reads (Y.GetScalar r ∷ is) h fits =
-    let a = and_parts (is_target s r) (are_get_items s is) h in
+items_targeted words s k labels line most may writes reads [] h = tt
+items_targeted words s k labels line most may writes reads (Y.GetScalar r ∷ is) h =
+    let a = and_parts (is_variable s r) (are_get_items s is) h in
+    let v = variable_is s r a.0 in
     let u = setting_around words k labels line most in (
       λ place.
-          target_is s (within place u) need r (writes.numbers words may place labels line) reads.program a.0
-          (omega (arith, fits)),
-      items_targeted words s k labels line need most may writes reads is a.1 (omega (arith, fits)),
+          let n = writes.numbers words may place labels line in
+          subst (IsTarget (within place u) 0) (sym v.is)
+          (number_target (within place u) v.spot 0 n.begun (n.variables v.spot v.known) reads.program),
+      items_targeted words s k labels line most may writes reads is a.1,
     )
-items_targeted words s k labels line need most may writes reads (Y.GetAggregate r ∷ is) h fits = absurd (cc h)
+items_targeted words s k labels line most may writes reads (Y.GetAggregate r ∷ is) h = absurd (cc h)
 
 lists_targeted :
-    (words : ℕ) (s : Scope) (k : Block) (labels : List Label) (line need most : ℕ) → MayBeSet s words →
-    KnowsPuts s k most → KnowsReads s k most → (ps : List Y.GetPair) → are_get_pairs s ps ≡ true →
-    get_needs ps ≤ need → ListsHaveTargets (setting_around words k labels line most) need (lists_of ps)
+    (words : ℕ) (s : Scope) (k : Block) (labels : List Label) (line most : ℕ) → MayBeSet s words → KnowsPuts s k most →
+    KnowsReads s k most → (ps : List Y.GetPair) → are_get_pairs s ps ≡ true →
+    ListsHaveTargets (setting_around words k labels line most) 0 (lists_of ps)
 unfolding lists_of
-lists_targeted words s k labels line need most may writes reads [] h fits = tt
-lists_targeted words s k labels line need most may writes reads (p ∷ ps) h fits =
+lists_targeted words s k labels line most may writes reads [] h = tt
+lists_targeted words s k labels line most may writes reads (p ∷ ps) h =
     let a = and_parts (are_get_items s p.items && by_numbers p) (are_get_pairs s ps) h in
     let b = and_parts (are_get_items s p.items) (by_numbers p) a.0 in (
-      items_targeted words s k labels line need most may writes reads p.items b.0 (omega (arith, fits)),
-      lists_targeted words s k labels line need most may writes reads ps a.1 (omega (arith, fits)),
+      items_targeted words s k labels line most may writes reads p.items b.0,
+      lists_targeted words s k labels line most may writes reads ps a.1,
     )
 
 -- ---- the statement
@@ -196,12 +171,12 @@ get_statement_does words s k labels skip pairs line index left' most h has =
     let l = front_of lists edit_ended
     (back_of option (lists ++ edit_ended) (back_of (act_code line) (option ++ (lists ++ edit_ended)) has.statement)) in
     subst (λ ps. DoesWith words k labels (Y.Get skip ps line) index left') same
-    (get_does words k labels x index left' (get_needs pairs) most
+    (get_does words k labels x index left' 0 most
     (record {
       act = has.act;
       skip = skip_is skip a.0;
       lists = lists_listed words s k writes.lists pairs (index + size_of (act_code line) + size_of option) b.1 l;
-      registers = has.registers;
+      registers = omega arith;
       held = has.held;
       endfile = λ place. reads.endfile words has.may place labels line;
       error = λ place. reads.error words has.may place labels line;
@@ -210,7 +185,7 @@ get_statement_does words s k labels skip pairs line index left' most h has =
           (stmt_code k.environment (set_aside words) (Y.Get skip ps line))) (sym same) has.statement;
       paid = subst (λ ps. size_with words k (Y.Get skip ps line) + most ≤ cost k.call.code) (sym same) has.paid;
     })
-    (lists_targeted words s k labels line (get_needs pairs) most has.may writes reads pairs b.1 (omega arith)))
+    (lists_targeted words s k labels line most has.may writes reads pairs b.1))
 
 -- ---- what is known where no unit is in force
 

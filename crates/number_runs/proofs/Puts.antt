@@ -21,6 +21,7 @@ use Rattle.run_steps.specs.Reach.{cost}
 use Rattle.run_steps.proofs.Jumps.{back_of}
 use Rattle.program_runs.specs.Statements.{Block, DoesWith, HasAct, IsBegun, set_aside, size_with}
 use Rattle.condition_codes.specs.Codes.{HasCode}
+use Rattle.expression_runs.specs.Values.{Setting}
 use Rattle.expression_runs.specs.Assignments.{setting_around}
 use Rattle.expression_runs.specs.Variables.{IsNumber, Spot}
 use Rattle.expression_runs.proofs.Raises.{overflow_ends}

@@ -625,7 +625,6 @@ mutual
       (record {
         act = act_of h line a.0;
         may = h.set;
-        registers = fits;
         held = h.ready.held;
         statement = at.linked;
         paid = paid_for h (Y.Get skip pairs line) index at.linked;

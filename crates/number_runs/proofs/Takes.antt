@@ -32,7 +32,7 @@ use Rattle.number_runs.specs.Based.{is_word_type}
 use Rattle.number_runs.specs.Narrow.{has_precision, is_bit, is_number_type, is_text_type}
 use Rattle.number_runs.specs.Numbers.{is_narrow_with, is_precision, is_text, text_needs, without_given, IsBare}
 use Rattle.number_runs.specs.Numbers.{are_compared, compared_sets, name_sets, without_located, is_item, subscripts_need}
-use Rattle.number_runs.specs.Gets.{are_get_items, are_get_pairs, is_get, get_items_need, get_needs, is_target}
+use Rattle.number_runs.specs.Gets.{are_get_items, are_get_pairs, is_get}
 use Rattle.pli_coding.specs.Streams.{get_items_take, get_takes, has_text}
 use Rattle.number_runs.specs.Puts.{are_pairs, are_put_items, is_put, is_put_item, is_put_list, is_skip, are_shown}
 use Rattle.number_runs.specs.Puts.{is_list}
@@ -48,7 +48,7 @@ use Rattle.number_runs.proofs.Counters.{IsCounting, counting_is, counting_of, st
 use Rattle.number_runs.proofs.Taking.{Sets, Takes, next_number, one_more, sets_both, sets_either, sets_no_words}
 use Rattle.number_runs.proofs.Taking.{sets_none, sets_signed, takes_either, takes_next, takes_none, takes_of}
 use Rattle.number_runs.proofs.Taking.{takes_signed}
-use Rattle.number_runs.proofs.Unset.{number_unset, reference_unset, test_unset}
+use Rattle.number_runs.proofs.Unset.{number_unset, test_unset}
 use Rattle.number_runs.proofs.Narrow.{narrow_with_is}
 use Rattle.number_runs.proofs.Pointed.{by_pointed, compared_by}
 use Rattle.number_runs.proofs.Taking.{Fits, list_takes, scalar_takes}
@@ -626,42 +626,30 @@ put_taken words s skip (p ∷ ps) h fits =
     let a = and_parts (is_skip skip) (s.puts && are_pairs s (p ∷ ps)) h in
     pairs_taken words s (p ∷ ps) (and_parts s.puts (are_pairs s (p ∷ ps)) a.1).1 fits
 
-target_reference : (s : Scope) (r : Y.Reference) → is_target s r ≡ true → is_reference (without_calls s) r ≡ true
-target_reference s (Y.Referring v Y.NotLocated part Y.NoNumber) h =
-    ap (λ b. b || is_given (without_calls s) (Y.Referring v Y.NotLocated part Y.NoNumber)) h
-target_reference s (Y.Referring v Y.NotLocated part (Y.NumberThen subscript Y.NoNumber)) h = h
-target_reference s (Y.Referring v Y.NotLocated part (Y.NumberThen first (Y.NumberThen second rest))) h = absurd (cc h)
-target_reference s (Y.Referring v (Y.LocatedBy p) part subscripts) h = absurd (cc h)
-
--- what was read waits in a register
+-- a field waits in a register at most
 get_items_taken :
-    (words : ℕ) (s : Scope) (is : List Y.GetItem) → are_get_items s is ≡ true → get_items_need is ≤ held_registers →
-    Takes (get_items_need is) (set_aside words) (get_items_take (set_aside words) is)
-get_items_taken words s [] h fits = takes_none (set_aside words)
-get_items_taken words s (Y.GetScalar r ∷ is) h fits =
-    let a = and_parts (is_target s r) (are_get_items s is) h in
-    let known = target_reference s r a.0 in
-    let x = reference_taken (without_calls s) r (with_number (set_aside words)) known (omega (arith, fits)) in
+    (words : ℕ) (s : Scope) (is : List Y.GetItem) → are_get_items s is ≡ true →
+    Takes 0 (set_aside words) (get_items_take (set_aside words) is)
+get_items_taken words s [] h = takes_none (set_aside words)
+get_items_taken words s (Y.GetScalar r ∷ is) h =
+    let a = and_parts (is_variable s r) (are_get_items s is) h in
+    let x = scalar_takes s r (with_number (set_aside words)) (inl a.0) in
     let more = x.registers in
     let same = x.words in
-    let none = reference_unset (without_calls s) r (refl, refl, λ level n is. absurd (cc is)) known in
-    takes_either (suc (reference_needs r)) (get_items_need is) (set_aside words)
-    (reference_takes (with_number (set_aside words)) r) (get_items_take (set_aside words) is)
-    (record { registers = omega (arith, more); words = omega (arith, same, none) })
-    (get_items_taken words s is a.1 (omega (arith, fits)))
-get_items_taken words s (Y.GetAggregate r ∷ is) h fits = absurd (cc h)
+    takes_either 0 0 (set_aside words) (reference_takes (with_number (set_aside words)) r)
+    (get_items_take (set_aside words) is)
+    (record { registers = omega (arith, more); words = omega (arith, same) }) (get_items_taken words s is a.1)
+get_items_taken words s (Y.GetAggregate r ∷ is) h = absurd (cc h)
 
 get_taken :
-    (words : ℕ) (s : Scope) (ps : List Y.GetPair) → are_get_pairs s ps ≡ true → get_needs ps ≤ held_registers →
-    Takes (get_needs ps) (set_aside words) (get_takes (set_aside words) ps)
-get_taken words s [] h fits = takes_none (set_aside words)
-get_taken words s (p ∷ ps) h fits =
+    (words : ℕ) (s : Scope) (ps : List Y.GetPair) → are_get_pairs s ps ≡ true →
+    Takes 0 (set_aside words) (get_takes (set_aside words) ps)
+get_taken words s [] h = takes_none (set_aside words)
+get_taken words s (p ∷ ps) h =
     let by = is_list p.formats && not (has_text p.formats) in
     let a = and_parts (are_get_items s p.items && by) (are_get_pairs s ps) h in
-    takes_either (get_items_need p.items) (get_needs ps) (set_aside words)
-    (get_items_take (set_aside words) p.items) (get_takes (set_aside words) ps)
-    (get_items_taken words s p.items (and_parts (are_get_items s p.items) by a.0).0 (omega (arith, fits)))
-    (get_taken words s ps a.1 (omega (arith, fits)))
+    takes_either 0 0 (set_aside words) (get_items_take (set_aside words) p.items) (get_takes (set_aside words) ps)
+    (get_items_taken words s p.items (and_parts (are_get_items s p.items) by a.0).0) (get_taken words s ps a.1)
 
 -- two words and a name
 allocation_taken :
@@ -792,8 +780,8 @@ mutual
   statement_taken words s valued labels (Y.Get skip pairs line) h fits =
       let a = and_parts (is_line line) (is_get s skip pairs) h in
       let b = and_parts (is_skip skip) ((s.puts && s.reads) && are_get_pairs s pairs) a.1 in
-      sets_no_words (get_needs pairs) (set_aside words) (get_takes (set_aside words) pairs)
-      (get_taken words s pairs (and_parts (s.puts && s.reads) (are_get_pairs s pairs) b.1).1 fits)
+      sets_no_words 0 (set_aside words) (get_takes (set_aside words) pairs)
+      (get_taken words s pairs (and_parts (s.puts && s.reads) (are_get_pairs s pairs) b.1).1)
   statement_taken words s valued labels (Y.Put skip pairs line) h fits =
       put_taken words s skip pairs (and_parts (is_line line) (is_put s skip pairs) h).1 fits
 

@@ -13,7 +13,7 @@ use Rattle.number_runs.specs.Numbers.{without_given, is_area_known, is_automatic
 use Rattle.number_runs.specs.Numbers.{spot_of, without_located, is_followed, name_sets, inside, is_item}
 use Rattle.number_runs.specs.Narrow.{has_precision, is_bit, is_text_type}
 use Rattle.number_runs.specs.Puts.{is_put, put_needs, put_sets}
-use Rattle.number_runs.specs.Gets.{is_get, get_needs}
+use Rattle.number_runs.specs.Gets.{is_get}
 
 -- a line fits a register
 abbrev pub is_line : ℕ → Bool
@@ -172,7 +172,6 @@ abbrev mutual
   statement_needs (Y.CallProcedure call line) = call_needs call
   statement_needs (Y.ReturnValue type source line) = stored_needs source
   statement_needs (Y.Put skip pairs line) = put_needs pairs
-  statement_needs (Y.Get skip pairs line) = get_needs pairs
   statement_needs _ = 0
 
   pub statements_need : Y.Stmts → ℕ
