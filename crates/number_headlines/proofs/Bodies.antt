@@ -23,12 +23,13 @@ use Rattle.activation_relation.specs.Layers.{Layer}
 use Rattle.run_steps.specs.Items.{Linked}
 use Rattle.run_steps.proofs.Jumps.{back_of}
 use Rattle.run_steps.proofs.Linking.{size_append}
-use Rattle.program_places.specs.Programs.{code_for, links_for, procedures_index, program_environment, body_for}
+use Rattle.program_places.specs.Programs.{body_for, code_for, environment_for, links_for, procedures_index}
+use Rattle.program_places.specs.Programs.{program_environment}
 use Rattle.program_places.proofs.Callees.{callee_stands}
 use Rattle.program_places.proofs.Found.{known}
 use Rattle.program_places.proofs.Functions.{function_stands}
 use Rattle.program_places.proofs.Procedures.{body_placed, raise_routines}
-use Rattle.program_runs.specs.Calls.{left_over}
+use Rattle.program_runs.specs.Calls.{body_index, left_over}
 use Rattle.program_runs.specs.Starts.{image_parts}
 use Rattle.program_runs.specs.Statements.{DoesWith, EachDoes, IsOwn, as_outer, set_aside}
 use Rattle.expression_runs.specs.Assignments.{setting_around}
@@ -41,9 +42,11 @@ use Rattle.nested_calls.proofs.FullCalls.{full_call_ends, full_function_ends}
 use Rattle.nested_calls.proofs.NestedCalls.{call_coded, call_of, given_in}
 use Rattle.nested_calls.proofs.NestedFunctions.{deep_function_ends}
 use Rattle.function_runs.specs.FunctionCalls.{called_from}
+use Rattle.jump_runs.specs.Calls.{block_in}
 use Rattle.jump_runs.specs.Functions.{function_in}
 use Rattle.jump_runs.proofs.FunctionLists.{each_ends, system_ends}
 use Rattle.jump_runs.proofs.Numbers.{alone}
+use Rattle.unit_runs.proofs.InnerLists.{each_list}
 use Rattle.program_places.proofs.Labels.{are_marked}
 use Rattle.number_runs.specs.Knowledge as Left
 use Rattle.number_runs.specs.Knowledge.{IsReady, IsUnraised, IsValued, KnowsAroundTexts, KnowsCalls, KnowsPuts}
@@ -456,12 +459,13 @@ call_by once {program} m input acts valued more b a few h lands each words set l
     let os = as_outer k labels ∷ a.form.outers in
     nested_jump_call_does words k labels c level line index left_over more is shallow
     (λ p numbers o. are_made m (record { running = h; among = o }) i call pass)
-    (λ p numbers o b'.
+    (λ p numbers o list'.
     let r = entered_at i k call p numbers in
     let at : Moment m input acts valued (suc more) a (suc b) p numbers = record { running = h; among = o } in
-    let bare = alone (block_of_run program input acts false more r) os b' in
-    each false (with_outers os r) b (entered_leaving r os (entered once m at i call pass shallow bare) b')
-    (called_landings m at lands labels named i call pass bare)) h.begun)
+    let bare = alone (block_of_run program input acts false more r) os list'.begun in
+    each_list (block_in k labels c p numbers) i.body (body_index c) left_over list' is.callee.labels
+    (each false (with_outers os r) b (entered_leaving r os (entered once m at i call pass shallow bare) list'.begun)
+    (called_landings m at lands labels named i call pass bare))) h.begun)
     (λ e.
     full_call_ends words k c level line index left_over more is shallow
     (λ p numbers o. are_full m (record { running = h; among = o }) i call few (past used e)) h.begun labels))

@@ -111,6 +111,10 @@ parameter_leaving k os x b n =
       listed = n.listed;
       few = n.few;
       small = n.small;
+      number = n.number;
+      numbered = n.numbered;
+      low = n.low;
+      inside = n.inside;
     }
 
 area_leaving : (k : Block) (os : List Outer) (x : Spot) → HasArea (leaving k []) x → HasArea (leaving k os) x
@@ -168,7 +172,13 @@ entered_leaving {program} {m} {input} {acts} {valued} {more} a {blocks} os e b =
         variables = λ x is. number_leaving k os x (h.variables x is);
         arrays = λ x is.
             let n = h.arrays x is in
-            record { initial = n.initial; known = known_leaving k os x _ n.known; bounds = n.bounds };
+            record {
+              initial = n.initial;
+              known = known_leaving k os x _ n.known;
+              type = n.type;
+              bounds = n.bounds;
+              some = n.some;
+            };
         narrows = λ x is.
             let n = h.narrows x is in record { initial = n.initial; known = known_leaving k os x _ n.known };
         parameters = λ x is. parameter_leaving k os x b (h.parameters x is);
@@ -261,7 +271,7 @@ called_target {program} m {input} {acts} {valued} {more} {b} {a} {p} {numbers} o
     record {
       entries = same.entries;
       edits = same.edits;
-      registers = omega arith;
+      registers = λ held. omega (arith, held);
       top = omega (arith, top, frame, here, end);
     }
 
@@ -312,7 +322,6 @@ own_landing {program} m {input} {acts} {valued} {more} {a = a} o layers labels i
     let there = label_of (links_for program) (linked_code (code_for program)) a.index (environment_of_run program a)
     none_taken a.body h.placed label among in
     let saved = labels_saved program label a.body among in
-    let held = t.registers in
     record {
       behind = 0;
       outer = as_outer k labels;
@@ -323,7 +332,7 @@ own_landing {program} m {input} {acts} {valued} {more} {a = a} o layers labels i
       found = ap height_of same
           ∙ sym (ap (λ xs. height_of (ancestor xs (newest_height xs) a.head.level)) o.among.later.activations)
           ∙ own_ancestor h.level (newest_at h.begun o.among);
-      registers = omega (arith, saved, held);
+      registers = t.registers saved;
       entries = t.entries;
       edits = t.edits;
       top = t.top

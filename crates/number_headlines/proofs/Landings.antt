@@ -60,7 +60,7 @@ pub record IsLanding (program : Y.Program) (a : Running) (level : ℕ) (label : 
 pub record IsTarget (program : Y.Program) (a : Running) : Type 0 where
   pub entries : a.texts (a.form.behind a.made).control.entries ≡ a.layer.entries
   pub edits : (a.form.behind a.made).control.edits ≡ a.layer.edits
-  pub registers : stmts_held program a.body ≤ a.form.registers
+  pub registers : held_registers ≤ stmts_held program a.body → held_registers ≤ a.form.registers
   pub top :
       upper_top image_parts (a.layers (a.form.behind a.made).control.layers)
       ≡ frame_under image_parts (a.layers (a.form.behind a.made).control.layers)

@@ -91,7 +91,7 @@ given_target {program} m {ns = ns} {v = v} o os =
           ∙ sym (ap (λ (ψ : Layer). ψ.entries) layer);
       edits = ap (λ (u : Point). u.control.edits) here ∙ same.edits ∙ bound.edits
           ∙ sym (ap (λ (ψ : Layer). ψ.edits) layer);
-      registers = omega arith;
+      registers = λ held. omega (arith, held);
       top = omega (arith, top, frame, end', end);
     }
 

@@ -69,7 +69,7 @@ main_landings {program} m input acts =
       target = λ jumped label among. record {
         entries = same.entries;
         edits = same.edits;
-        registers = omega arith;
+        registers = λ held. omega (arith, held);
         top = omega (arith, top, frame, here, end);
       };
     }

@@ -34,7 +34,7 @@ use Rattle.expression_runs.specs.Values.{Setting, behind, in_registers, number_a
 use Rattle.expression_runs.proofs.Words.{number_closed}
 use Rattle.function_runs.specs.FunctionCalls.{called_from}
 use Rattle.function_runs.specs.Functions.{function_beginning, function_entry}
-use Rattle.unit_runs.specs.InnerLists.{ListDoes}
+use Rattle.unit_runs.specs.InnerLists.{IsList, ListDoes}
 use Rattle.jump_runs.specs.Calls.{block_in}
 use Rattle.jump_runs.specs.Exits.{hand_aims}
 use Rattle.jump_runs.specs.Functions.{FunctionDoes, IsFunctionList, function_in}
@@ -106,7 +106,8 @@ pub nested_jump_call_does :
     nat_lt (length k.first.state.activations) most_activations ≡ true →
     ((p : Point) (numbers : ℕ → ℕ) → IsAmong k numbers p →
     AreMade k.call.surroundings k.call.code c p numbers) →
-    ((p : Point) (numbers : ℕ → ℕ) → IsAmong k numbers p → IsBegun (block_in k labels c p numbers) →
+    ((p : Point) (numbers : ℕ → ℕ) → IsAmong k numbers p →
+    IsList (block_in k labels c p numbers) c.procedure.body (body_index c) →
     ListDoes (block_in k labels c p numbers) c.procedure.body (body_index c) left_over) → IsBegun k →
     DoesWith words k labels (call_at c level line) index left'
 unfolding M.statement ◌>>=◌ ◌>>◌
@@ -150,7 +151,7 @@ nested_jump_call_does words k labels c level line index left' more h few made' e
     (sym (called_means h o'))
     (call_goes words k labels c acts level line index left' more h p' numbers wanted g is (omega arith)
     (list_exits z is acts (omega arith)
-    (λ list'. each p' numbers o' list'.begun))
+    (each p' numbers o'))
     (back_of one (given' ++ call) l) (size ∙ n0) at))))
 
 -- ---- a call in an expression

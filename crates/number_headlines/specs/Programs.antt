@@ -1,6 +1,6 @@
 -- Programs of FIXED BINARY(31) numbers, as a class that is computed from typed trees.
-use Rattle.std.specs.Prelude.{ℕ, zero, suc, ◌*◌, ◌^◌, ◌&&◌, ◌++◌, ◌==◌, Bool, true, false, List, [], ◌∷◌, length}
-use Rattle.std.specs.Prelude.{nat_le, nat_lt, not, slice_get, Option, None, Some, if◌then◌else◌}
+use Rattle.std.specs.Prelude.{ℕ, zero, suc, ◌*◌, ◌^◌, ◌&&◌, ◌||◌, ◌++◌, ◌==◌, Bool, true, false, List, [], ◌∷◌}
+use Rattle.std.specs.Prelude.{length, nat_le, nat_lt, not, slice_get, Option, None, Some, if◌then◌else◌}
 use Rattle.std.specs.List.{flat_map, list_any}
 use Rattle.pli_typing.specs.TypedTree as Y
 use Rattle.pli_meaning.specs.DeclaredShapes.{head_of, procedure_numbered, variables_of_block}

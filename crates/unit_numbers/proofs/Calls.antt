@@ -133,12 +133,12 @@ call_by once {program} m h ih more b part out os a each own carries words set la
     let pass = leb-true used most_automatic e in
     nested_jump_call_does words k labels c level line index left_over more is shallow
     (λ p numbers o. are_made m (record { at = a; among = o }) i call pass)
-    (λ p numbers o b'.
+    (λ p numbers o list'.
     let r = entered_at i k call p numbers in
     let os' = as_outer k labels ∷ os in
     (each h b (called_part i) (as_outer (bare_block m h false more r) []) os' ih
     (called_entered once m (record { at = a; among = o }) i call labels
-    (carries_more part own labels carries includes) pass shallow b')).list
+    (carries_more part own labels carries includes) pass shallow list'.begun)).list
     refl)
     a.begun)
     (λ e.
