@@ -56,7 +56,6 @@ use Rattle.text_runs.specs.Texts.{error_aims}
 use Rattle.unit_numbers.proofs.Arrays.{phase_at}
 use Rattle.unit_numbers.proofs.Hosts.{Part}
 use Rattle.unit_numbers.proofs.Listing.{Listing, inside_of, steps_do}
-
 use Rattle.unit_numbers.proofs.Raises.{Knows, error_at, knows_of}
 use Rattle.unit_numbers.proofs.Routines.{error_routines}
 use Rattle.unit_numbers.proofs.Scenes.{Carries, EachBody, IsAt, IsEntered, IsVisited, at_told, block_of, ons_in}
