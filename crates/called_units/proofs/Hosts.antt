@@ -6,7 +6,7 @@ use Rattle.std.proofs.lemmas.Bool.{leb-true}
 use Rattle.std.proofs.lemmas.Bool.Decides.{nat_tests}
 use Rattle.std.specs.Prelude.{◌==◌, cond, drop, nat_le}
 use Rattle.pli_typing.specs.TypedTree as Y
-use Rattle.pli_typing.specs.Signatures.{Bounds, data_size}
+use Rattle.pli_typing.specs.Signatures.{data_size}
 use Rattle.pli_meaning.specs.DeclaredShapes.{declared_variable, shape_of}
 use Rattle.pli_meaning.specs.StorageState.{Activation, ancestor, ancestor_at, binding_in, height_of, living_of}
 use Rattle.pli_meaning.specs.StorageState.{newest_height}
@@ -21,8 +21,8 @@ use Rattle.program_runs.specs.Statements.{Block, IsBegun}
 use Rattle.expression_runs.specs.Values.{Setting}
 use Rattle.expression_runs.specs.Variables.{Spot, variable_of}
 use Rattle.variable_runs.specs.Known.{IsKnown, place_of}
-use Rattle.element_runs.specs.Arrays.{IsArray}
-use Rattle.element_runs.proofs.Outer.{outer_array}
+use Rattle.array_runs.specs.Arrays.{Grid, IsArray}
+use Rattle.array_runs.proofs.Outer.{outer_array}
 use Rattle.scalar_runs.specs.Scalars.{IsScalar}
 use Rattle.nested_calls.specs.Nested.{IsNested, parent_at}
 use Rattle.nested_calls.proofs.NestedVariables.{ancestor_itself}
@@ -98,11 +98,11 @@ host_known k x more h r o p numbers count spot d z less is =
 
 host_array :
     (k : Setting) (x : Standing) (more : ℕ) (h : IsRaised k x more) (r : Raise) (o : Block) (p : Point)
-    (numbers : ℕ → ℕ) (count : ℕ) (spot : Spot) (b : Bounds) →
-    IsHosted k x more h r o p numbers count → spot.level < x.unit.head.level → IsArray o spot b →
-    IsArray (unit_block k x r) spot b
-host_array k x more h r o p numbers count spot b z less is =
-    outer_array o (unit_block k x r) spot b
+    (numbers : ℕ → ℕ) (count : ℕ) (spot : Spot) (g : Grid) →
+    IsHosted k x more h r o p numbers count → spot.level < x.unit.head.level → IsArray o spot g →
+    IsArray (unit_block k x r) spot g
+host_array k x more h r o p numbers count spot g z less is =
+    outer_array o (unit_block k x r) spot g
     (λ d known. host_known k x more h r o p numbers count spot d z less known) is
 
 host_scalar :

@@ -2,13 +2,12 @@
 -- it. It has that block's variables of every type, and its static ancestors.
 use Rattle.std.specs.Prelude.{ℕ, suc, ◌<◌, ◌≡◌}
 use Rattle.pli_typing.specs.TypedTree as Y
-use Rattle.pli_typing.specs.Signatures.{Bounds}
 use Rattle.activation_relation.specs.Layers.{Point}
 use Rattle.program_runs.specs.Statements.{Block, IsBegun}
 use Rattle.expression_runs.specs.Values.{Setting}
 use Rattle.expression_runs.specs.Variables.{Spot}
 use Rattle.variable_runs.specs.Known.{IsKnown}
-use Rattle.element_runs.specs.Arrays.{IsArray}
+use Rattle.array_runs.specs.Arrays.{Grid, IsArray}
 use Rattle.scalar_runs.specs.Scalars.{IsScalar}
 use Rattle.nested_calls.specs.Nested.{IsNested, parent_at}
 use Rattle.unit_runs.specs.Raised.{AreMade, IsRaiseOf, IsRaised, Raise, Standing, unit_block}
@@ -31,9 +30,9 @@ pub record HostsKnown : Type 0 where
       IsKnown (unit_block k x r) spot d
   pub array :
       (k : Setting) (x : Standing) (more : ℕ) (h : IsRaised k x more) (r : Raise) (o : Block) (p : Point)
-      (numbers : ℕ → ℕ) (count : ℕ) (spot : Spot) (b : Bounds) →
-      IsHosted k x more h r o p numbers count → spot.level < x.unit.head.level → IsArray o spot b →
-      IsArray (unit_block k x r) spot b
+      (numbers : ℕ → ℕ) (count : ℕ) (spot : Spot) (g : Grid) →
+      IsHosted k x more h r o p numbers count → spot.level < x.unit.head.level → IsArray o spot g →
+      IsArray (unit_block k x r) spot g
   pub scalar :
       (k : Setting) (x : Standing) (more : ℕ) (h : IsRaised k x more) (r : Raise) (o : Block) (p : Point)
       (numbers : ℕ → ℕ) (count : ℕ) (spot : Spot) (t : Y.LeafType) →

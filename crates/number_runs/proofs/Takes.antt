@@ -64,7 +64,6 @@ subscripts_front n p t a x =
     let u = x.words in
     record { registers = omega (arith, c); words = omega (arith, u) }
 
-
 pub narrow_taken :
     (s : Scope) (test : Y.LeafType → Bool) (r : Y.Reference) (t : Taken) → is_narrow_with s test r ≡ true →
     Sets (reference_needs r) (reference_sets r) t (reference_takes t r)

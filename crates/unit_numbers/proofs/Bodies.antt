@@ -56,7 +56,6 @@ use Rattle.text_runs.specs.Texts.{error_aims}
 use Rattle.unit_numbers.proofs.Arrays.{phase_at}
 use Rattle.unit_numbers.proofs.Hosts.{Part}
 use Rattle.unit_numbers.proofs.Listing.{Listing, inside_of, steps_do}
-
 use Rattle.unit_numbers.proofs.Raises.{Knows, error_at, knows_of}
 use Rattle.unit_numbers.proofs.Routines.{error_routines}
 use Rattle.unit_numbers.proofs.Scenes.{Carries, EachBody, IsAt, IsEntered, IsVisited, at_told, block_of, ons_in}
@@ -177,8 +176,10 @@ pub plain_of :
     statement_needs stmt ≤ o.registers → statement_sets stmt ≤ statements_set c.body →
     Standing (block_of m h o os) stmt index → Does (block_of m h o os) labels stmt index left_over
 plain_of {program} {m} {h} {c} {o} {os} {own} z labels stmt index around is fits sets at =
+    let none = begin_unneeded (scope_of m c) c.valued labels stmt (λ head body. refl) is in
     form_does (scope_of m c) c.valued (block_of m h o os) own labels stmt index (most_for program) left_over z.ready
-    (record { at = around.at; includes = around.includes }) is fits (z.framed (statement_sets stmt) sets) at
+    (record { at = around.at; includes = around.includes }) is fits (omega (arith, none)) (z.framed (statement_sets stmt)
+    sets) at
 
 pub test_of :
     {program : Y.Program} {m : Main program} {h : Home} {c : Part} {o : Outer} {os : List Outer} {own : List Label} →
@@ -305,8 +306,9 @@ unit_each once {program} m more each h ih blocks c o os e unit =
     let z = known_of m h ih (suc more) blocks c o os
     (record { at = a; words = e.words; clear = e.clear; home = λ no. absurd (cc (sym no ∙ unit)) }) own e.part.waiting
     knows told in
+    let unneeded = begins_unneeded (scope_of m c) c.valued own c.body (λ head inner'. refl) (e.part.statements unit) in
     body_does (scope_of m c) c.valued (block_of m h o os) c.body c.index (most_for program) left_over z.ready
-    (e.part.statements unit) e.part.needs (z.framed (statements_set c.body) (omega arith)) e.part.placed
+    (e.part.statements unit) e.part.needs (omega (arith, unneeded)) (z.framed (statements_set c.body) (omega arith)) e.part.placed
 
 -- the list of what is called, through phases
 visited_each :

@@ -18,7 +18,7 @@ use Rattle.program_places.proofs.Found.{known}
 use Rattle.program_places.proofs.Procedures.{body_placed}
 use Rattle.number_runs.specs.Numbers.{has_none}
 use Rattle.number_runs.specs.Statements.{statements_need, statements_set}
-use Rattle.number_runs.proofs.Takes.{Sets}
+use Rattle.number_runs.proofs.Taking.{Sets}
 use Rattle.number_headlines.specs.Programs.{body_of, has_result, is_callable, is_declared_if, is_valued, most_waiting}
 use Rattle.number_headlines.specs.Programs.{stand_alike}
 use Rattle.number_headlines.proofs.Mains.{procedure_is, result_of}

@@ -196,7 +196,7 @@ main_home once {program} m h ih writes =
       level = refl;
       own = refl;
       block = own_block program m.head m.body None found;
-      returns = λ e. record {
+      returns = λ e. inl (record {
         owner = refl;
         end = end.place;
         near = end.near;
@@ -205,8 +205,8 @@ main_home once {program} m h ih writes =
         begun = ih.begun;
         kind = refl;
         registers = omega arith;
-      };
-      values = λ e. absurd (cc e);
+      });
+      values = λ may e. absurd (cc e);
     }
 
 -- ---- its statements

@@ -26,10 +26,10 @@ use Rattle.activation_relation.proofs.Displays.{ancestor_low}
 use Rattle.program_places.specs.Programs.{environment_for}
 use Rattle.program_runs.specs.Calls.{left_over}
 use Rattle.program_runs.specs.Starts.{image_parts}
-use Rattle.program_runs.specs.Statements.{Block, IsBegun, Outer, own_height}
+use Rattle.program_runs.specs.Statements.{Block, IsBegun, IsOwn, Outer, own_height}
 use Rattle.program_runs.proofs.NewestBlocks.{newest_ancestor}
 use Rattle.nested_calls.specs.Nested.{IsNested, parent_at}
-use Rattle.number_runs.specs.Knowledge.{IsHome}
+use Rattle.number_runs.specs.Knowledge.{GoesThrough, IsHome}
 use Rattle.number_runs.specs.Numbers.{bounds_known, type_known}
 use Rattle.number_runs.specs.Statements.{statements_set}
 use Rattle.number_runs.specs.Variables.{AreTabled}
@@ -319,6 +319,46 @@ pub record IsSet {program : Y.Program} (m : Main program) (h : Home) (more block
     pub clear : (n : ℕ) → at.free.layer.waits n ≡ None
     pub home : c.unit ≡ false → IsHome (scope_of m c) c.valued (block_of m h o os) left_over
 
+-- a RETURN goes on where it did
+own_past :
+    {program : Y.Program} (m : Main program) (h : Home) (o : Outer) (os : List Outer) (past : Past) →
+    IsBegun (block_of m h (past_outer past o) os) →
+    IsOwn (block_of m h o os) left_over ⊎ GoesThrough (block_of m h o os) left_over →
+    IsOwn (block_of m h (past_outer past o) os) left_over ⊎ GoesThrough (block_of m h (past_outer past o) os) left_over
+own_past m h o os past begun (inl q) =
+    inl (record {
+      owner = q.owner;
+      end = q.end;
+      near = q.near;
+      enough = q.enough;
+      function = q.function;
+      begun = begun;
+      kind = q.kind;
+      registers = q.registers;
+    })
+own_past m h o os past begun (inr t) =
+    let q = t.is in
+    inr (record {
+      through = t.through;
+      is = record {
+        begun = begun;
+        there = q.there;
+        begins = q.begins;
+        procedure = q.procedure;
+        function = q.function;
+        own = q.own;
+        inner = q.inner;
+        few = q.few;
+        found = (past_like past o.first).ancestors t.through.level ∙ q.found;
+        registers = q.registers;
+        numbers = q.numbers;
+        owner = q.owner;
+        end = q.end;
+        near = q.near;
+        enough = q.enough;
+      };
+    })
+
 pub past_at :
     {program : Y.Program} {m : Main program} {h : Home} {more blocks : ℕ} {c : Part} {o : Outer} {os : List Outer} →
     IsEntered m h more blocks c o os → (unit : c.unit ≡ false) → IsVisited m h c o os → (writes : Bool) (past : Past) →
@@ -392,19 +432,9 @@ past_at {program} {m} {h} {more} {blocks} {c} {o} {os} e unit v writes past know
             level = i.level;
             own = i.own;
             block = i.block;
-            returns = λ none.
-                let q = i.returns none in record {
-                  owner = q.owner;
-                  end = q.end;
-                  near = q.near;
-                  enough = q.enough;
-                  function = q.function;
-                  begun = begun;
-                  kind = q.kind;
-                  registers = q.registers;
-                };
-            values = λ one.
-                let q = i.values one in record {
+            returns = λ none. own_past m h o os past begun (i.returns none);
+            values = λ may one.
+                let q = i.values may one in record {
                   owner = q.owner;
                   end = q.end;
                   near = q.near;
