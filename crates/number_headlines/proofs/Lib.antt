@@ -42,3 +42,4 @@ pub mod InitialRows
 pub mod EuclidRows
 pub mod LentRows
 pub mod HolderRows
+pub mod FewerRows

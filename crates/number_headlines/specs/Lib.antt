@@ -18,3 +18,4 @@ pub mod InitialRows
 pub mod EuclidRows
 pub mod LentRows
 pub mod HolderRows
+pub mod FewerRows

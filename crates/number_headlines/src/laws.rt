@@ -12,6 +12,7 @@ ghost use Rattle.number_headlines.specs.GivenRows.{FactKept};
 ghost use Rattle.number_headlines.specs.Headlines.{NumberHeadlinesKept};
 ghost use Rattle.number_headlines.specs.InitialRows.{InitialKept};
 ghost use Rattle.number_headlines.specs.LentRows.{LentKept};
+ghost use Rattle.number_headlines.specs.FewerRows.{FarKept};
 ghost use Rattle.number_headlines.specs.HolderRows.{HolderKept};
 ghost use Rattle.number_headlines.specs.NestRows.{NestKept};
 ghost use Rattle.number_headlines.specs.PowerRows.{PowerKept};
@@ -158,6 +159,13 @@ pub fn lent_kept()
 /// holder with both.
 pub fn holder_kept()
     ensures { HolderKept }
+{
+    number_headlines_kept();
+}
+
+/// A worked row with functions of fewer bits: what one returns in a loop comes to have too many, which is raised.
+pub fn far_kept()
+    ensures { FarKept }
 {
     number_headlines_kept();
 }

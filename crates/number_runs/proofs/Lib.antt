@@ -10,6 +10,7 @@ pub mod AreaWords
 pub mod AreaNames
 pub mod AreaKnown
 pub mod Unset
+pub mod Fewer
 pub mod Takes
 pub mod BlocksTaken
 pub mod Waiting
@@ -23,5 +24,6 @@ pub mod Counters
 pub mod Turns
 pub mod Homes
 pub mod Narrowed
+pub mod Returned
 pub mod Statements
 pub mod Uncounted

@@ -39,7 +39,6 @@ use Rattle.number_runs.proofs.BlocksTaken.{plain_known, registers_held}
 use Rattle.number_runs.proofs.Words.{room_behind}
 use Rattle.number_headlines.proofs.FullWords.{words_at, words_count, words_lower}
 use Rattle.number_headlines.proofs.Loops.{after_waits, after_words}
-use Rattle.number_headlines.proofs.Mains.{result_of}
 use Rattle.number_headlines.proofs.Running.{free_among, table_later}
 use Rattle.number_headlines.proofs.Tables.{block_plain}
 use Rattle.condition_codes.specs.Codes.{HasCode}
@@ -47,7 +46,7 @@ use Rattle.jump_runs.proofs.Numbers.{alone, leaving, number_leaving}
 use Rattle.unit_numbers.proofs.Arrays.{array_leaving, narrow_leaving}
 use Rattle.unit_numbers.proofs.Callees.{Called, callee_of}
 use Rattle.unit_numbers.proofs.Homes.{Home, home_block, low_array, low_spot, world_of, low_narrow}
-use Rattle.unit_numbers.proofs.Inner.{Inner}
+use Rattle.unit_numbers.proofs.Inner.{Inner, precision_of, returns_so}
 use Rattle.unit_numbers.proofs.Mains.{Main, level_of, main_scope}
 use Rattle.unit_numbers.proofs.Named.{DontPass, Moment, are_made, bare_block, begun_room, called_scope, each_array}
 use Rattle.unit_numbers.proofs.Named.{each_narrow, each_number, entered_at, inner_set, made_idle, nested_by}
@@ -172,11 +171,11 @@ called_home :
     (os : List Outer) → IsBegun (whole_block m h v more (entered_at i k call p numbers) os) →
     IsHome (called_scope m i) v (whole_block m h v more (entered_at i k call p numbers) os) left_over
 called_home once false {program} m h more i k call p numbers os b =
-    let end = end_is once program i.head i.body m.loadable i.is in
+    let end = end_is once program i.head i.body m.loadable (returns_so i) in
     record {
       level = refl;
       own = refl;
-      block = own_block program i.head i.body None i.is;
+      block = own_block program i.head i.body i.result i.is;
       returns = λ e. record {
         owner = refl;
         end = end.place;
@@ -191,11 +190,12 @@ called_home once false {program} m h more i k call p numbers os b =
     }
 called_home once true {program} m h more i k call p numbers os b =
     let inside = i.inside in
-    let end = function_end_is once program i.head i.body 31 m.loadable i.is (omega (arith, inside)) in
+    let end = function_end_is once program i.head i.body (precision_of i) m.loadable (returns_so i)
+    (omega (arith, inside)) in
     record {
       level = refl;
       own = refl;
-      block = own_block program i.head i.body (Some (Y.FixedLeaf 31)) i.is;
+      block = own_block program i.head i.body i.result i.is;
       returns = λ e. absurd (cc e);
       values = λ e. record {
         owner = refl;
@@ -249,7 +249,7 @@ called_entered once {program} m {h} {more} {b} {part} {out} {os} {p} {numbers} o
     let f = free_among (suc b) o.at.begun o.among o.at.free in
     let words = inner_set m i in
     let waiting = i.fit.waiting in
-    let high = (known program i.head i.body (result_of v) m.loadable.well_formed i.is).level in
+    let high = (known program i.head i.body i.result m.loadable.well_formed i.is).level in
     let used = f.used in
     let fits = f.fits in
     let under = f.under in
@@ -319,7 +319,7 @@ called_entered once {program} m {h} {more} {b} {part} {out} {os} {p} {numbers} o
         statements = i.fit.statements;
         needs = registers;
         waiting = i.fit.waiting;
-        placed = body_placed once program i.head i.body (result_of v) m.loadable i.is;
+        placed = body_placed once program i.head i.body i.result m.loadable i.is;
       };
       words = after_words serial φ xs ∙ inner_set m i;
       clear = λ n. ap (λ waits. waits n) (after_waits serial φ xs);

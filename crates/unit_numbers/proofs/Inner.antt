@@ -10,7 +10,7 @@ use Rattle.pli_meaning.specs.DeclaredShapes.{head_of, procedure_numbered}
 use Rattle.program_places.specs.Programs.{IsProcedure, environment_for}
 use Rattle.number_runs.specs.Numbers.{has_none}
 use Rattle.number_headlines.specs.Programs.{body_of, has_result, is_callable, is_declared_if, is_valued, stand_alike}
-use Rattle.number_headlines.proofs.Mains.{procedure_is, result_of}
+use Rattle.number_headlines.proofs.Mains.{procedure_is, result_by, result_is}
 use Rattle.unit_numbers.specs.Calls.{are_called, is_body_in, is_called_if}
 use Rattle.unit_numbers.proofs.Mains.{Main, list_of}
 use Rattle.unit_numbers.proofs.Units.{Fit, fit_is}
@@ -20,7 +20,9 @@ pub record Inner {program : Y.Program} (m : Main program) (caller : Y.BlockHead)
   where
     pub head : Y.BlockHead
     pub body : Y.Stmts
-    pub is : IsProcedure program head body (result_of valued)
+    pub result : Option Y.LeafType
+    pub returns : has_result valued result ≡ true
+    pub is : IsProcedure program head body result
     pub numbered : head.number ≡ number
     pub inside : head.level ≡ suc level
     pub around_it : level ≤ caller.level
@@ -110,12 +112,26 @@ inner_is {program} m caller valued level number h =
         record {
           head = head;
           body = body;
-          is =
-              ap (λ k. procedure_numbered k program.procedures) n ∙ e
-              ∙ ap (λ q. Some q) (procedure_is valued p i.0 b.0);
+          result = p.result;
+          returns = b.0;
+          is = ap (λ k. procedure_numbered k program.procedures) n ∙ e ∙ ap (λ q. Some q) (procedure_is p i.0);
           numbered = n;
           inside = eqb-true head.level (suc level) c.0;
           around_it = leb-true level caller.level d.0;
           alike = d.1;
           fit = fit_is program m.called (list_of m) head false valued body own;
         }
+
+-- ---- what it returns
+
+unfoldable pub precision_of :
+    {program : Y.Program} {m : Main program} {caller : Y.BlockHead} {v : Bool} {level number : ℕ} →
+    Inner m caller v level number → ℕ
+precision_of {v = v} i = (result_is v i.result i.returns).precision
+
+pub returns_so :
+    {program : Y.Program} {m : Main program} {caller : Y.BlockHead} {v : Bool} {level number : ℕ}
+    (i : Inner m caller v level number) → IsProcedure program i.head i.body (result_by v (precision_of i))
+unfolding precision_of
+returns_so {program} {v = v} i =
+    subst (λ t. IsProcedure program i.head i.body t) (result_is v i.result i.returns).is i.is
