@@ -369,7 +369,7 @@ given_goes {k} {u} call c' f' v' es s x y h enters q same l at paid =
     ∙ ap (λ e. flow_on w.acts e enter) (all_last k.around (evaluated ys) ys w.acts s)
     ∙ ap (λ e. enter (all_passed ys) w.acts e) q.state
     ∙ entered_means (Some number_function) {u = listed_there u call} {numbers = q.numbers} {p = p} k.around ys
-    (Some (Y.FixedLeaf 31)) d o (h.found, refl, h.enter, h.around) in
+    (Some h.type) d o (h.found, refl, h.enter, h.around) in
     subst (λ e. Comes code c' f' v' aims' e) (sym flow)
     (onward closed q.reach
     (λ g there.

@@ -88,12 +88,14 @@ pub record IsListedValue (k : Setting) (u : Listed) (more : ℕ) : Type 0 where
   pub function : IsTakingFunction k.block.call.surroundings k.block.call.code u.callee
   pub declared : IsDeclared k.block u more
   pub words : k.words ≡ u.words
+  -- whatever type its declaration has
+  pub type : Y.LeafType
   pub found :
       procedure_numbered u.callee.procedure.head.number k.around.program.procedures
       ≡ Some (record {
         block = block_of u.callee.procedure;
         parameters = indices_of u.callee.parameters;
-        result = Some (Y.FixedLeaf 31);
+        result = Some type;
       })
   pub enter : k.around.enter ≡ entered k.around.program (suc more)
   pub around :

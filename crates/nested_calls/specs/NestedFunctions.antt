@@ -31,9 +31,11 @@ pub record IsNestedFunction (k : Setting) (c : Callee) (level more : ℕ) : Type
   pub around_it : level ≤ k.block.environment.level
   pub inner : c.procedure.head.level ≡ suc level
   pub parent : c.calling.parent ≡ parent_at k.block level
+  -- whatever type its declaration has
+  pub type : Y.LeafType
   pub found :
       procedure_numbered c.procedure.head.number k.around.program.procedures
-      ≡ Some (record { block = block_of c.procedure; parameters = []; result = Some (Y.FixedLeaf 31) })
+      ≡ Some (record { block = block_of c.procedure; parameters = []; result = Some type })
   pub enter : k.around.enter ≡ entered k.around.program (suc more)
   pub around :
       c.around

@@ -72,8 +72,8 @@ use Rattle.number_headlines.proofs.CalledBlocks.{Moment, are_made, callee_in, en
 use Rattle.number_headlines.proofs.Entered.{unraised_there}
 use Rattle.number_headlines.proofs.Full.{are_full}
 use Rattle.number_headlines.proofs.ListBodies.{knows_given}
-use Rattle.number_headlines.proofs.Inner.{Inner, inner_none}
-use Rattle.number_headlines.proofs.Mains.{Main, most_for, result_of, run_for}
+use Rattle.number_headlines.proofs.Inner.{Inner, inner_none, precision_of, returns_so}
+use Rattle.number_headlines.proofs.Mains.{Main, most_for, run_for}
 use Rattle.number_headlines.proofs.Puts.{constants_known, error_routine, lists_known}
 use Rattle.number_headlines.proofs.Based.{based_known, placed_known, told_reached}
 use Rattle.number_headlines.proofs.Running.{EachGiven, IsEntered, IsRunning, Running, block_of_run, told_run}
@@ -394,7 +394,7 @@ frame_fits :
 frame_fits {program} m input acts valued more b a h {v} i call =
     let words = inner_set m i in
     let waiting = i.waiting in
-    let level = (known program i.head i.body (result_of v) m.loadable.well_formed i.is).level in
+    let level = (known program i.head i.body i.result m.loadable.well_formed i.is).level in
     let fits = h.free.fits in
     let used = h.free.used in
     let top = ap (λ ls. upper_top image_parts ls) h.free.newest in
@@ -435,7 +435,7 @@ call_by once {program} m input acts valued more b a few h lands each words set l
       low = omega (arith, set);
       line_fits = less;
       callee = callee_stands once program i.head i.body (run_for program input acts)
-          (site_in i more k call) m.loadable i.is
+          (site_in i more k call) m.loadable (returns_so i)
           (back_of given' last (back_of one (given' ++ last) l')) few;
       frame = frame_fits m input acts valued more b a h i call;
       idle = h.idle;
@@ -445,7 +445,7 @@ call_by once {program} m input acts valued more b a few h lands each words set l
       around_it = i.around_it;
       inner = i.inside;
       parent = refl;
-      found = i.is;
+      found = returns_so i;
       enter = refl;
       around = refl;
       enough = h.enough;
@@ -485,8 +485,8 @@ value_by once {program} m input acts valued more b a few h lands each words set 
     let used = automatic_in_use k.first.state.living + bytes_of (variables_of_block program i.head.number) in
     let c = callee_in i more k 0 in
     let inside = i.inside in
-    let stands = function_stands once program i.head i.body 31 (run_for program input acts)
-    (site_in i more k 0) m.loadable i.is (omega (arith, inside)) few in
+    let stands = function_stands once program i.head i.body (precision_of i) (run_for program input acts)
+    (site_in i more k 0) m.loadable (returns_so i) (omega (arith, inside)) few in
     let within = stands.stands.inside in
     let low = entry_low (program_environment program) i.head.number program.procedures (procedures_index program) in
     let is : IsNestedFunction z c level more = record {
@@ -498,7 +498,8 @@ value_by once {program} m input acts valued more b a few h lands each words set 
       around_it = i.around_it;
       inner = i.inside;
       parent = refl;
-      found = i.is;
+      type = Y.FixedLeaf (precision_of i);
+      found = returns_so i;
       enter = refl;
       around = refl;
       enough = h.enough;

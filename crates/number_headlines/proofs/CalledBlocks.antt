@@ -43,7 +43,7 @@ use Rattle.number_runs.proofs.Narrow.{outer_narrow}
 use Rattle.number_headlines.specs.Programs.{scope_of}
 use Rattle.number_headlines.proofs.Begins.{begins_at, block_begins}
 use Rattle.number_headlines.proofs.Inner.{Inner}
-use Rattle.number_headlines.proofs.Mains.{Main, made_for, result_of, surroundings_for}
+use Rattle.number_headlines.proofs.Mains.{Main, made_for, surroundings_for}
 use Rattle.number_headlines.proofs.Running.{IsRunning, Running, around_for, block_of_run, free_among, run_of}
 use Rattle.number_headlines.proofs.Running.{table_later}
 use Rattle.number_headlines.proofs.Tables.{block_known, plain_block, serials_enough}
@@ -120,7 +120,7 @@ begun_room {program} m {input} {acts} {valued} {more} {b} {a} {p} {numbers} o {v
     let words = ap (λ (x : Procedure). x.words) is ∙ inner_set m i in
     let waiting = i.waiting in
     let inside = ap (λ (x : Procedure). x.head.level) is in
-    let level = (known program i.head i.body (result_of v) m.loadable.well_formed i.is).level in
+    let level = (known program i.head i.body i.result m.loadable.well_formed i.is).level in
     let few = (plain_block program.variables i.head.number m.known i.own).room in
     let fits = f.fits in
     let even = f.even in
@@ -152,7 +152,7 @@ has_words {program} m {input} {acts} {valued} {more} {b} {a} {p = p} {numbers = 
     let n = bytes_of (variables_of_block program i.head.number) in
     let plain = plain_block program.variables i.head.number m.known i.own in
     record {
-      kind = (known program i.head i.body (result_of v) m.loadable.well_formed i.is).kind;
+      kind = (known program i.head i.body i.result m.loadable.well_formed i.is).kind;
       coded = refl;
       block = refl;
       level = refl;
@@ -165,7 +165,7 @@ has_words {program} m {input} {acts} {valued} {more} {b} {a} {p = p} {numbers = 
       tabled = table_later program o.among.later.remains o.running.tabled i.head;
       begin = begins_at program (variables_of_block program i.head.number) p.places.constants
           (o.among.later.remains.constants ∙ o.running.told.constants)
-          (block_begins program i.head i.body [] (result_of v) m.memory m.known i.is);
+          (block_begins program i.head i.body [] i.result m.memory m.known i.is);
       room = room_fewer w (begun_at w c p numbers) (layer_for w p numbers c.procedure c.calling) p.control.layers
           (fixed_size i.head.level 0) n (n + 0) (omega arith) (begun_room m o i c refl pass);
     }
@@ -214,7 +214,7 @@ pub is_inside :
     IsInside (block_of_run program input acts valued (suc more) a)
     (callee_in i more (block_of_run program input acts valued (suc more) a) call) level
 is_inside {program} m o {v = v} i call =
-    let level = (known program i.head i.body (result_of v) m.loadable.well_formed i.is).level in
+    let level = (known program i.head i.body i.result m.loadable.well_formed i.is).level in
     record {
       begun = o.running.begun;
       nested = o.running.nested;

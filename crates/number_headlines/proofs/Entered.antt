@@ -47,9 +47,9 @@ use Rattle.number_headlines.specs.Programs.{places_to, scope_of}
 use Rattle.number_headlines.proofs.Around.{none_received, outer_around_by, received_parts, received_there}
 use Rattle.parameter_runs.specs.Around.{IsParameterAround}
 use Rattle.number_headlines.proofs.FullWords.{words_at, words_count, words_lower}
-use Rattle.number_headlines.proofs.Inner.{Inner}
+use Rattle.number_headlines.proofs.Inner.{Inner, precision_of, returns_so}
 use Rattle.number_headlines.proofs.Loops.{after_waits, after_words}
-use Rattle.number_headlines.proofs.Mains.{Main, made_system, result_of, surroundings_for}
+use Rattle.number_headlines.proofs.Mains.{Main, made_system, surroundings_for}
 use Rattle.number_headlines.proofs.Places.{alike_at, around_is, is_around}
 use Rattle.number_headlines.proofs.Pointers.{none_holding, none_pointing}
 use Rattle.number_headlines.proofs.Running.{IsEntered, Running, block_of_run, free_among}
@@ -105,7 +105,7 @@ stands_at {program} {caller = caller} {v = v} {level = level} i x h =
         let same : x.level ≡ i.head.level = omega (arith, less, inside, high) in
         inr (
           there.1 ∙ ap (λ n. block_around (environment_for program i.head) n) same
-              ∙ own_block program i.head i.body (result_of v) i.is,
+              ∙ own_block program i.head i.body i.result i.is,
           same,
         )
 
@@ -307,10 +307,11 @@ ends_by :
     (v : Bool) → MarkedOnce → {program : Y.Program} (m : Main program) {caller : Y.BlockHead} {level number : ℕ}
     (i : Inner m caller [] v level number) →
     IsEnd (links_for program) i.head.number (end_by v program i.head i.body)
-ends_by false once {program} m i = end_is once program i.head i.body m.loadable i.is
+ends_by false once {program} m i = end_is once program i.head i.body m.loadable (returns_so i)
 ends_by true once {program} m i =
     let inside = i.inside in
-    function_end_is once program i.head i.body 31 m.loadable i.is (omega (arith, inside))
+    function_end_is once program i.head i.body (precision_of i) m.loadable (returns_so i)
+    (omega (arith, inside))
 
 -- its parameters are those of the calling block: it has none itself
 each_around :
@@ -336,7 +337,7 @@ each_around {program} m {input} {acts} {valued} {more} {b} {a} {p} {numbers} o {
     by (inl low) =
         outer_around_by v m o i call pass b' x low.0
         (o.running.parameters x (received_there program m.called i.head a.head i.body a.body x low.1 h))
-    by (inr own) = absurd (none_received program m.called i.head i.body (result_of v) x i.is own.0 h)
+    by (inr own) = absurd (none_received program m.called i.head i.body i.result x i.is own.0 h)
 
 pub entered :
     MarkedOnce → {program : Y.Program} (m : Main program) {input : List ℕ} {acts : ℕ} {valued : Bool} {more b : ℕ}
@@ -374,7 +375,7 @@ entered once {program} m {input} {acts} {valued} {more} {b} {a} {p} {numbers} o 
     let f = free_among (suc b) o.running.begun o.among o.running.free in
     let words = inner_set m i in
     let waiting = i.waiting in
-    let level = (known program i.head i.body (result_of v) m.loadable.well_formed i.is).level in
+    let level = (known program i.head i.body i.result m.loadable.well_formed i.is).level in
     let used = f.used in
     let under = f.under in
     let fits = f.fits in
@@ -388,7 +389,7 @@ entered once {program} m {input} {acts} {valued} {more} {b} {a} {p} {numbers} o 
     (record { activation = _; below = _; active = refl; some = omega arith }) in
     record {
       running = record {
-        own = own_block program i.head i.body (result_of v) i.is;
+        own = own_block program i.head i.body i.result i.is;
         shallow = omega (arith, level);
         level = refl;
         held = called_held m v i.head i.body i.statements i.fits i.begins
@@ -400,7 +401,7 @@ entered once {program} m {input} {acts} {valued} {more} {b} {a} {p} {numbers} o 
           ends = ends_by v once m i;
           owner = refl;
         });
-        placed = body_placed once program i.head i.body (result_of v) m.loadable i.is;
+        placed = body_placed once program i.head i.body i.result m.loadable i.is;
         statements = i.statements;
         fits = i.fits;
         waiting = i.waiting;

@@ -25,7 +25,7 @@ use Rattle.number_headlines.proofs.CalledBlocks.{Moment, callee_in, inner_set}
 use Rattle.number_headlines.proofs.Begins.{begins_at, block_begins}
 use Rattle.number_headlines.proofs.FullWords.{words_over}
 use Rattle.number_headlines.proofs.Inner.{Inner}
-use Rattle.number_headlines.proofs.Mains.{Main, result_of, surroundings_for}
+use Rattle.number_headlines.proofs.Mains.{Main, surroundings_for}
 use Rattle.number_headlines.proofs.Running.{Running, block_of_run, free_among, table_later}
 use Rattle.number_headlines.proofs.Tables.{plain_block}
 
@@ -53,7 +53,7 @@ are_full {program} m {input} {acts} {valued} {more} {b} {a} {p} {numbers} o {v} 
     let around = at_line c.around head.line in
     let plain = plain_block program.variables i.head.number m.known i.own in
     let count = plain.room in
-    let is = known program i.head i.body (result_of v) m.loadable.well_formed i.is in
+    let is = known program i.head i.body i.result m.loadable.well_formed i.is in
     let kind = is.kind in
     let level = is.level in
     let words = inner_set m i in
@@ -82,7 +82,7 @@ are_full {program} m {input} {acts} {valued} {more} {b} {a} {p} {numbers} o {v} 
     (record { parts = refl; acts = few }) plain.plain
     (table_later program o.among.later.remains o.running.tabled i.head)
     (begins_at program ds p.places.constants (o.among.later.remains.constants ∙ o.running.told.constants)
-    (block_begins program head i.body [] (result_of v) m.memory m.known i.is))
+    (block_begins program head i.body [] i.result m.memory m.known i.is))
     (record { activation = _; below = _; active = refl; some = omega arith })
     (record {
       newest = refl;

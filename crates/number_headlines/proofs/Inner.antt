@@ -1,5 +1,5 @@
 -- What a call of a program of the class finds: a procedure of the class, which a block around the calling one declares.
-use Rattle.std.proofs.Common.{◌≡◌, ◌⊎◌, inl, inr, ℕ, suc, ◌≤◌, List, [], ◌∷◌, ◌++◌, Option, None, Some, Bool, true}
+use Rattle.std.proofs.Common.{◌≡◌, ℕ, suc, ◌≤◌, List, [], ◌∷◌, ◌++◌, Option, None, Some, Bool, true}
 use Rattle.std.proofs.Common.{false, length, refl, sym, ap, ◌∙◌, subst, arith}
 use Rattle.std.specs.Prelude.{◌&&◌, ◌==◌, ◌||◌, cond, nat_le}
 use Rattle.std.specs.List.{list_any}
@@ -12,9 +12,9 @@ use Rattle.pli_coding.specs.Registers.{held_registers}
 use Rattle.program_places.specs.Programs.{IsReceiving, environment_for}
 use Rattle.number_runs.specs.Statements.{are_statements, begins_need, statements_need, statements_set}
 use Rattle.number_headlines.specs.Programs.{are_inner, are_own, body_of, has_result, is_body}
-use Rattle.number_headlines.specs.Programs.{is_callable, is_declared_if, is_inner, is_inner_if}
+use Rattle.number_headlines.specs.Programs.{is_callable, is_declared_if, is_inner_if}
 use Rattle.number_headlines.specs.Programs.{is_valued, most_waiting, scope_of, stand_alike}
-use Rattle.number_headlines.proofs.Mains.{Main, received_is, result_of}
+use Rattle.number_headlines.proofs.Mains.{Main, received_is, result_by, result_is}
 
 -- with its parameters, by their places among its variables
 pub record Inner {program : Y.Program} (m : Main program) (caller : Y.BlockHead) (parameters : List ℕ) (valued : Bool)
@@ -22,7 +22,9 @@ pub record Inner {program : Y.Program} (m : Main program) (caller : Y.BlockHead)
   where
     pub head : Y.BlockHead
     pub body : Y.Stmts
-    pub is : IsReceiving program head body parameters (result_of valued)
+    pub result : Option Y.LeafType
+    pub returns : has_result valued result ≡ true
+    pub is : IsReceiving program head body parameters result
     pub own : are_own parameters (variables_of_block program head.number) ≡ true
     pub numbered : head.number ≡ number
     pub inside : head.level ≡ suc level
@@ -134,9 +136,9 @@ inner_is {program} m caller count valued level number h =
           inner = record {
             head = head;
             body = body;
-            is =
-                ap (λ k. procedure_numbered k program.procedures) n ∙ e
-                ∙ ap (λ q. Some q) (received_is valued p b.0);
+            result = p.result;
+            returns = b.0;
+            is = ap (λ k. procedure_numbered k program.procedures) n ∙ e ∙ ap (λ q. Some q) (received_is p);
             own = u.0;
             numbered = n;
             inside = eqb-true head.level (suc level) c.0;
@@ -160,3 +162,17 @@ pub inner_none :
 inner_none m caller valued level number h =
     let f = inner_is m caller 0 valued level number h in
     subst (λ ns. Inner m caller ns valued level number) (none_many f.parameters f.many) f.inner
+
+-- ---- what it returns
+
+unfoldable pub precision_of :
+    {program : Y.Program} {m : Main program} {caller : Y.BlockHead} {ns : List ℕ} {v : Bool} {level number : ℕ} →
+    Inner m caller ns v level number → ℕ
+precision_of {v = v} i = (result_is v i.result i.returns).precision
+
+pub returns_so :
+    {program : Y.Program} {m : Main program} {caller : Y.BlockHead} {ns : List ℕ} {v : Bool} {level number : ℕ}
+    (i : Inner m caller ns v level number) → IsReceiving program i.head i.body ns (result_by v (precision_of i))
+unfolding precision_of
+returns_so {program} {ns = ns} {v = v} i =
+    subst (λ t. IsReceiving program i.head i.body ns t) (result_is v i.result i.returns).is i.is

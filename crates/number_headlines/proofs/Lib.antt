@@ -62,3 +62,4 @@ pub mod BeginRows
 pub mod ReadRows
 pub mod SearchRows
 pub mod QuestRows
+pub mod FewerRows

@@ -42,7 +42,7 @@ use Rattle.number_runs.specs.Knowledge.{Includes, IsPassable, given_number, give
 use Rattle.number_runs.specs.Numbers.{is_known}
 use Rattle.number_runs.proofs.Received.{stored_told}
 use Rattle.number_headlines.proofs.Deciding.{by_decision, entry_low}
-use Rattle.number_headlines.proofs.Inner.{Inner, inner_is}
+use Rattle.number_headlines.proofs.Inner.{Inner, inner_is, precision_of}
 use Rattle.number_headlines.proofs.ListPlaces.{function_taking, procedure_taking}
 use Rattle.number_headlines.proofs.Mains.{Main, most_for}
 use Rattle.number_headlines.proofs.Running.{EachGiven, IsEntered, IsRunning, Running, around_for, block_of_run}
@@ -119,7 +119,7 @@ given_value_by once {program} m input acts valued more b a few h lands each labe
     let u = listed_in i more k t in
     let inside = i.inside in
     let own = own_of i site.some in
-    let stands = function_taking once program i.head i.body ns input acts (parent_at k level) t.call
+    let stands = function_taking once program i.head i.body (precision_of i) ns input acts (parent_at k level) t.call
     (around_for program more) m.loadable (received_by i) (omega (arith, inside)) own few in
     let within = stands.stands.inside in
     let low = entry_low (program_environment program) i.head.number program.procedures (procedures_index program) in
@@ -129,6 +129,7 @@ given_value_by once {program} m input acts valued more b a few h lands each labe
       function = stands;
       declared = listed_declared m h i t site;
       words = refl;
+      type = Y.FixedLeaf (precision_of i);
       found = received_by i;
       enter = refl;
       around = refl;

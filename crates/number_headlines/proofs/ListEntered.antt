@@ -50,10 +50,10 @@ use Rattle.parameter_runs.specs.Around.{IsParameterAround}
 use Rattle.parameter_runs.proofs.Inner.{list_around, own_around}
 use Rattle.number_headlines.proofs.Entered.{stands_at}
 use Rattle.number_headlines.proofs.CalledBlocks.{inner_set}
-use Rattle.number_headlines.proofs.Inner.{Inner}
+use Rattle.number_headlines.proofs.Inner.{Inner, precision_of}
 use Rattle.number_headlines.proofs.ListPlaces.{has_parameters, parameter_found, parameters_at, taking_body_placed}
 use Rattle.number_headlines.proofs.ListPlaces.{taking_ends}
-use Rattle.number_headlines.proofs.Mains.{Main, result_of, surroundings_for, made_system}
+use Rattle.number_headlines.proofs.Mains.{Main, surroundings_for, made_system}
 use Rattle.number_headlines.proofs.Pointers.{none_holding, none_pointing}
 use Rattle.number_headlines.proofs.Running.{IsEntered, IsRunning, Running, block_of_run, free_among, function_by}
 use Rattle.number_headlines.proofs.Running.{called_held, table_later}
@@ -182,7 +182,7 @@ pub begins :
     Begins (function_by v) (calls_from o) (call_of o) more o.point o.numbers o.passed
 begins {program} m {ns = ns} {v = v} o =
     let i = o.inner in
-    let level = (known program i.head i.body (result_of v) m.loadable.well_formed i.is).level in
+    let level = (known program i.head i.body i.result m.loadable.well_formed i.is).level in
     record {
       declared = listed_declared m o.caller i o.site o.is;
       coded = o.coded;
@@ -531,7 +531,7 @@ given_entered once {program} m {input} {acts} {valued} {more} {b} {a} {ns} {v} o
     let same' = layer_is xs ys (listed_layer (call_at arrived)) in
     let inside = i.inside in
     let received = received_by i in
-    let level = (known program i.head i.body (result_of v) m.loadable.well_formed i.is).level in
+    let level = (known program i.head i.body i.result m.loadable.well_formed i.is).level in
     let f = free_among (suc b) h.begun o.among h.free in
     let fits = account.fits in
     let used = account.used in
@@ -546,7 +546,7 @@ given_entered once {program} m {input} {acts} {valued} {more} {b} {a} {ns} {v} o
     let small = serials_small w p _ o.among.few (omega arith) made.few in
     record {
       running = record {
-        own = own_block program i.head i.body (result_of v) i.is;
+        own = own_block program i.head i.body i.result i.is;
         shallow = omega (arith, level);
         level = sym (ap (λ (ψ : Layer). ψ.level) same');
         held = called_held m v i.head i.body i.statements i.fits i.begins (run_given o) refl refl;
@@ -554,10 +554,10 @@ given_entered once {program} m {input} {acts} {valued} {more} {b} {a} {ns} {v} o
           function = refl;
           kind = ap (λ (ψ : Layer). is_begin ψ.kind) same';
           saved = let saved = ap (λ (ψ : Layer). ψ.saved) same' in omega (arith, saved);
-          ends = taking_ends once program i.head i.body xs v m.loadable received (omega (arith, inside));
+          ends = taking_ends once program i.head i.body xs v (precision_of i) m.loadable received (omega (arith, inside));
           owner = refl;
         });
-        placed = taking_body_placed once program i.head i.body xs v m.loadable received (omega (arith, inside));
+        placed = taking_body_placed once program i.head i.body xs v (precision_of i) m.loadable received (omega (arith, inside));
         statements = i.statements;
         fits = i.fits;
         waiting = i.waiting;

@@ -31,7 +31,7 @@ use Rattle.number_runs.specs.Variables.{AreTabled, EachBegins, bytes_of, HaveRoo
 use Rattle.number_headlines.specs.Programs.{beside_received, most_bytes, received_in}
 use Rattle.number_headlines.proofs.CalledBlocks.{inner_set}
 use Rattle.number_headlines.proofs.Inner.{Inner}
-use Rattle.number_headlines.proofs.Mains.{Main, result_of, surroundings_for}
+use Rattle.number_headlines.proofs.Mains.{Main, surroundings_for}
 use Rattle.number_headlines.proofs.Running.{IsRunning, Running, around_for, block_of_run, free_among, function_by}
 use Rattle.number_headlines.proofs.Running.{table_later, frame_bytes}
 use Rattle.number_headlines.proofs.Tables.{serials_enough, block_known}
@@ -160,7 +160,7 @@ bound_account {program} m {input} {acts} {valued} {more} {b} {a} {ns} {v} o =
     let same' = layer_is xs ys ψ in
     let set = inner_set m i in
     let waiting = i.waiting in
-    let level = (known program i.head i.body (result_of v) m.loadable.well_formed i.is).level in
+    let level = (known program i.head i.body i.result m.loadable.well_formed i.is).level in
     let f = free_among (suc b) h.begun o.among h.free in
     let same = in_use_later w k.first p h.begun.resumes.stands o.among.stands o.among.later in
     let fits = f.fits in
@@ -232,7 +232,7 @@ sized_by :
     (i : Inner m caller ns v level number) → IsSized program i.head ns
 sized_by {program} m {v = v} i =
     let ds = variables_of_block program i.head.number in
-    let level = (known program i.head i.body (result_of v) m.loadable.well_formed i.is).level in
+    let level = (known program i.head i.body i.result m.loadable.well_formed i.is).level in
     let room = (block_known program.variables i.head.number m.known).room in
     let fewer = bytes_behind (received_in ds) ds (beside_received ds) (behind_here ds) in
     record { bytes = omega (arith, room, fewer); fixed = omega (arith, level) }
@@ -304,7 +304,7 @@ words_begin {program} m {ns = ns} {v = v} o =
     (places.2 ∙ o.among.later.remains.constants ∙ o.caller.told.constants)
     (begins_behind (constants_in (code_for program)) (linked_code (code_for program)) (links_for program).data'
     (received_in ds) ds (beside_received ds) (behind_here ds)
-    (block_begins program i.head i.body ns (result_of v) m.memory m.known i.is))
+    (block_begins program i.head i.body ns i.result m.memory m.known i.is))
 
 words_coded :
     {program : Y.Program} (m : Main program) {caller : Y.BlockHead} {ns : List ℕ} {v : Bool} {level number : ℕ}
@@ -359,7 +359,7 @@ all_beside {program} m {input} {acts} {ns = ns} {v = v} o all =
     let enough = serials_enough program i.head.number m.known in
     let j : first ≡ 0 + first = omega arith in
     record {
-      kind = (known program i.head i.body (result_of v) m.loadable.well_formed i.is).kind;
+      kind = (known program i.head i.body i.result m.loadable.well_formed i.is).kind;
       those =
           those_behind first 0 ds es (words_for i) behind
           (subst (λ n. AreThose n (words_for i) es) j (words_those e place first es));
@@ -448,7 +448,7 @@ full_beside {program} m {input} {acts} {valued} {more} {b} {a} {ns} {v} o few pa
     let place = fixed_size head.level (length ns) in
     let q = point_at o in
     let around = at_line (around_for program more) head.line in
-    let kind = (known program head i.body (result_of v) m.loadable.well_formed i.is).kind in
+    let kind = (known program head i.body i.result m.loadable.well_formed i.is).kind in
     let account = bound_account m o in
     let fits = account.fits in
     let used = account.used in

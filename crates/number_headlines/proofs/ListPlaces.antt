@@ -46,7 +46,7 @@ use Rattle.number_runs.specs.Variables.{are_plain}
 use Rattle.number_runs.proofs.Variables.{parameter_declared_is}
 use Rattle.number_headlines.specs.Programs.{are_apart, are_own, are_parameters, beside_received, is_elsewhere}
 use Rattle.number_headlines.specs.Programs.{most_received, received_in}
-use Rattle.number_headlines.proofs.Mains.{result_of, run_for}
+use Rattle.number_headlines.proofs.Mains.{result_by, run_for}
 
 -- ---- its parameters
 
@@ -187,36 +187,36 @@ tail_by false x = procedure_tail x
 tail_by true x = function_tail x
 
 ended_by :
-    (valued : Bool) (program : Y.Program) (head : Y.BlockHead) (body : Y.Stmts) (xs : List Parameter) →
-    IsLoadable program → IsReceiving program head body (indices_of xs) (result_of valued) → 1 ≤ head.level →
-    ended_code (environment_for program head) (procedure_for program head body) (result_of valued)
+    (valued : Bool) (precision : ℕ) (program : Y.Program) (head : Y.BlockHead) (body : Y.Stmts) (xs : List Parameter) →
+    IsLoadable program → IsReceiving program head body (indices_of xs) (result_by valued precision) → 1 ≤ head.level →
+    ended_code (environment_for program head) (procedure_for program head body) (result_by valued precision)
     ≡ tail_by valued (procedure_for program head body)
-ended_by false program head body xs h is inner = refl
-ended_by true program head body xs h is inner = function_ended program head body 31 h is inner
+ended_by false precision program head body xs h is inner = refl
+ended_by true precision program head body xs h is inner = function_ended program head body precision h is inner
 
 entry_placed :
-    MarkedOnce → (program : Y.Program) (head : Y.BlockHead) (body : Y.Stmts) (xs : List Parameter) (valued : Bool) →
-    IsLoadable program → IsReceiving program head body (indices_of xs) (result_of valued) → 1 ≤ head.level →
+    MarkedOnce → (program : Y.Program) (head : Y.BlockHead) (body : Y.Stmts) (xs : List Parameter) (valued : Bool) (precision : ℕ) →
+    IsLoadable program → IsReceiving program head body (indices_of xs) (result_by valued precision) → 1 ≤ head.level →
     Placed (links_for program) (linked_code (code_for program)) (entry_for program head.number)
     (Mark (ProcedureEntry head.number)
     ∷ taking_code (bare_taking program head body xs) (tail_by valued (procedure_for program head body)))
-entry_placed once program head body xs valued h is inner =
+entry_placed once program head body xs valued precision h is inner =
     let c = bare_taking program head body xs in
     let x = procedure_for program head body in
     placed_as (Mark (ProcedureEntry head.number) ∷ taking_code c (tail_by valued x))
-    (entry_coded program head body xs (result_of valued)
-    ∙ ap (λ u. Mark (ProcedureEntry head.number) ∷ taking_code c u) (ended_by valued program head body xs h is inner))
-    (receiving_placed once program head body (indices_of xs) (result_of valued) h is)
+    (entry_coded program head body xs (result_by valued precision)
+    ∙ ap (λ u. Mark (ProcedureEntry head.number) ∷ taking_code c u) (ended_by valued precision program head body xs h is inner))
+    (receiving_placed once program head body (indices_of xs) (result_by valued precision) h is)
 
 taking_placed :
-    MarkedOnce → (program : Y.Program) (head : Y.BlockHead) (body : Y.Stmts) (xs : List Parameter) (valued : Bool) →
-    IsLoadable program → IsReceiving program head body (indices_of xs) (result_of valued) → 1 ≤ head.level →
+    MarkedOnce → (program : Y.Program) (head : Y.BlockHead) (body : Y.Stmts) (xs : List Parameter) (valued : Bool) (precision : ℕ) →
+    IsLoadable program → IsReceiving program head body (indices_of xs) (result_by valued precision) → 1 ≤ head.level →
     Placed (links_for program) (linked_code (code_for program)) (entry_for program head.number)
     (taking_code (bare_taking program head body xs) (tail_by valued (procedure_for program head body)))
-taking_placed once program head body xs valued h is inner =
+taking_placed once program head body xs valued precision h is inner =
     behind_mark (ProcedureEntry head.number)
     (taking_code (bare_taking program head body xs) (tail_by valued (procedure_for program head body)))
-    (entry_placed once program head body xs valued h is inner)
+    (entry_placed once program head body xs valued precision h is inner)
 
 -- ---- its first statement, and its end
 
@@ -231,11 +231,11 @@ taking_end true program head body xs =
     + size_of (no_value head.line)
 
 rest_placed :
-    MarkedOnce → (program : Y.Program) (head : Y.BlockHead) (body : Y.Stmts) (xs : List Parameter) (valued : Bool) →
-    IsLoadable program → IsReceiving program head body (indices_of xs) (result_of valued) → 1 ≤ head.level →
+    MarkedOnce → (program : Y.Program) (head : Y.BlockHead) (body : Y.Stmts) (xs : List Parameter) (valued : Bool) (precision : ℕ) →
+    IsLoadable program → IsReceiving program head body (indices_of xs) (result_by valued precision) → 1 ≤ head.level →
     Placed (links_for program) (linked_code (code_for program)) (taking_index program head body xs)
     (stmts_code (environment_for program head) none_taken body ++ tail_by valued (procedure_for program head body))
-rest_placed once program head body xs valued h is inner =
+rest_placed once program head body xs valued precision h is inner =
     let e = environment_for program head in
     let x = procedure_for program head body in
     let c = bare_taking program head body xs in
@@ -245,33 +245,33 @@ rest_placed once program head body xs valued h is inner =
     (placed_back x.variables (one ++ rest)
     (placed_back (copies_code c) (x.variables ++ (one ++ rest))
     (placed_back (listing_of c) (copies_code c ++ (x.variables ++ (one ++ rest)))
-    (taking_placed once program head body xs valued h is inner))))
+    (taking_placed once program head body xs valued precision h is inner))))
 
 pub taking_body_placed :
-    MarkedOnce → (program : Y.Program) (head : Y.BlockHead) (body : Y.Stmts) (xs : List Parameter) (valued : Bool) →
-    IsLoadable program → IsReceiving program head body (indices_of xs) (result_of valued) → 1 ≤ head.level →
+    MarkedOnce → (program : Y.Program) (head : Y.BlockHead) (body : Y.Stmts) (xs : List Parameter) (valued : Bool) (precision : ℕ) →
+    IsLoadable program → IsReceiving program head body (indices_of xs) (result_by valued precision) → 1 ≤ head.level →
     Placed (links_for program) (linked_code (code_for program)) (taking_index program head body xs)
     (stmts_code (environment_for program head) none_taken body)
-taking_body_placed once program head body xs valued h is inner =
+taking_body_placed once program head body xs valued precision h is inner =
     placed_front (stmts_code (environment_for program head) none_taken body)
-    (tail_by valued (procedure_for program head body)) (rest_placed once program head body xs valued h is inner)
+    (tail_by valued (procedure_for program head body)) (rest_placed once program head body xs valued precision h is inner)
 
 pub taking_ends :
-    MarkedOnce → (program : Y.Program) (head : Y.BlockHead) (body : Y.Stmts) (xs : List Parameter) (valued : Bool) →
-    IsLoadable program → IsReceiving program head body (indices_of xs) (result_of valued) → 1 ≤ head.level →
+    MarkedOnce → (program : Y.Program) (head : Y.BlockHead) (body : Y.Stmts) (xs : List Parameter) (valued : Bool) (precision : ℕ) →
+    IsLoadable program → IsReceiving program head body (indices_of xs) (result_by valued precision) → 1 ≤ head.level →
     IsEnd (links_for program) head.number (taking_end valued program head body xs)
-taking_ends once program head body xs false h is inner =
+taking_ends once program head body xs false precision h is inner =
     let x = procedure_for program head body in
     let p = placed_back (stmts_code (environment_for program head) none_taken body) (procedure_tail x)
-    (rest_placed once program head body xs false h is inner) in
+    (rest_placed once program head body xs false precision h is inner) in
     let inside = p.linked.inside in
     let small' = p.linked.small' in
     record { place = mark_place (ReturnPlace head.number) (end_of x) p; near = omega (arith, inside, small') }
-taking_ends once program head body xs true h is inner =
+taking_ends once program head body xs true precision h is inner =
     let x = procedure_for program head body in
     let p = placed_back (no_value head.line) (Mark (ReturnPlace head.number) ∷ function_end x)
     (placed_back (stmts_code (environment_for program head) none_taken body) (function_tail x)
-    (rest_placed once program head body xs true h is inner)) in
+    (rest_placed once program head body xs true precision h is inner)) in
     let inside = p.linked.inside in
     let small' = p.linked.small' in
     record { place = mark_place (ReturnPlace head.number) (function_end x) p; near = omega (arith, inside, small') }
@@ -346,30 +346,30 @@ procedure_taking once program head body ns input acts parent call around h is in
       calls = calls;
       place = mark_place (ProcedureEntry head.number)
           (taking_code (bare_taking program head body xs) (procedure_tail x))
-          (entry_placed once program head body xs false h is inner);
-      stands = (taking_placed once program head body xs false h is inner).linked;
+          (entry_placed once program head body xs false 0 h is inner);
+      stands = (taking_placed once program head body xs false 0 h is inner).linked;
       end = refl;
       kind = k.kind;
       labels = are_marked (links_for program) (linked_code (code_for program)) (taking_index program head body xs) e
           body
-          (taking_body_placed once program head body xs false h is inner);
+          (taking_body_placed once program head body xs false 0 h is inner);
       acts = few;
       parameters = has_parameters program head c ns refl refl own;
     }
 
 pub function_taking :
-    MarkedOnce → (program : Y.Program) (head : Y.BlockHead) (body : Y.Stmts) (ns : List ℕ) (input : List ℕ) (acts : ℕ)
+    MarkedOnce → (program : Y.Program) (head : Y.BlockHead) (body : Y.Stmts) (precision : ℕ) (ns : List ℕ) (input : List ℕ) (acts : ℕ)
     (parent call : ℕ) (around : Around) → IsLoadable program →
     IsReceiving program head body (indices_of (parameters_at (environment_for program head) ns))
-    (Some (Y.FixedLeaf 31)) → 1 ≤ head.level → IsOwnList ns (variables_of_block program head.number) →
+    (Some (Y.FixedLeaf precision)) → 1 ≤ head.level → IsOwnList ns (variables_of_block program head.number) →
     acts + 1 < 2 ^ 64 →
     IsTakingFunction (surroundings_of (image_for program (run_for program input acts)))
     (linked_code (code_for program))
     (taking_at true program head body (parameters_at (environment_for program head) ns) parent call around)
-function_taking once program head body ns input acts parent call around h is inner own few =
+function_taking once program head body precision ns input acts parent call around h is inner own few =
     let e = environment_for program head in
     let xs = parameters_at e ns in
-    let k = known program head body (Some (Y.FixedLeaf 31)) h.well_formed is in
+    let k = known program head body (Some (Y.FixedLeaf precision)) h.well_formed is in
     let level = k.level in
     let x = procedure_for program head body in
     let c = taking_at true program head body xs parent call around in
@@ -380,13 +380,13 @@ function_taking once program head body ns input acts parent call around h is inn
       line = k.line;
       saved = few_saved program head body;
       place = mark_place (ProcedureEntry head.number) (taking_code (bare_taking program head body xs) (function_tail x))
-          (entry_placed once program head body xs true h is inner);
-      stands = (taking_placed once program head body xs true h is inner).linked;
+          (entry_placed once program head body xs true precision h is inner);
+      stands = (taking_placed once program head body xs true precision h is inner).linked;
       end = refl;
       kind = k.kind;
       labels = are_marked (links_for program) (linked_code (code_for program)) (taking_index program head body xs) e
           body
-          (taking_body_placed once program head body xs true h is inner);
+          (taking_body_placed once program head body xs true precision h is inner);
       acts = few;
       routines = raise_routines once program h;
       raises = omega (arith, error, at);

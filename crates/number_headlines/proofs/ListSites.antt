@@ -32,13 +32,13 @@ use Rattle.list_calls.proofs.ListBlocks.{activation_in, caller_of}
 use Rattle.number_runs.specs.Knowledge.{IsFree, most_set}
 use Rattle.number_runs.specs.Numbers.{is_parameter_if}
 use Rattle.number_runs.specs.Variables.{AreTabled, IsTabled, words_from}
-use Rattle.number_headlines.specs.Programs.{are_parameters, scope_of, most_words, beside_received, received_in}
+use Rattle.number_headlines.specs.Programs.{are_parameters, most_words, beside_received, received_in}
 use Rattle.number_headlines.proofs.Deciding.{by_decision}
 use Rattle.number_headlines.proofs.CalledBlocks.{inner_set}
-use Rattle.number_headlines.proofs.Inner.{Inner}
+use Rattle.number_headlines.proofs.Inner.{Inner, precision_of, returns_so}
 use Rattle.number_headlines.proofs.ListPlaces.{IsOwnList, indices_are, own_list, parameter_found, parameters_at}
 use Rattle.number_headlines.proofs.ListPlaces.{parameters_many, taking_at, taking_end, taking_index}
-use Rattle.number_headlines.proofs.Mains.{Main, result_of}
+use Rattle.number_headlines.proofs.Mains.{Main, result_by}
 use Rattle.number_headlines.proofs.Running.{IsRunning, Running, around_for, block_of_run, called_form, function_by}
 use Rattle.number_headlines.proofs.Tables.{serials_enough}
 use Rattle.program_runs.specs.Variables.{Declared}
@@ -167,10 +167,10 @@ own_of {program} {ns = ns} i some = own_list ns (variables_of_block program i.he
 pub received_by :
     {program : Y.Program} {m : Main program} {caller : Y.BlockHead} {ns : List ℕ} {valued : Bool}
     {level number : ℕ} (i : Inner m caller ns valued level number) →
-    IsReceiving program i.head i.body (indices_of (parameters_for i)) (result_of valued)
+    IsReceiving program i.head i.body (indices_of (parameters_for i)) (result_by valued (precision_of i))
 received_by {program} {ns = ns} {valued = valued} i =
-    subst (λ is. IsReceiving program i.head i.body is (result_of valued))
-    (sym (indices_are (environment_for program i.head) ns)) i.is
+    subst (λ is. IsReceiving program i.head i.body is (result_by valued (precision_of i)))
+    (sym (indices_are (environment_for program i.head) ns)) (returns_so i)
 
 -- no more copies than may come between two acts
 copies_paid :
@@ -200,7 +200,7 @@ listed_declared {program} m {input} {acts} {valued} {more} {a = a} h {ns} {v} i 
     let few = own.few in
     let set = inner_set m i in
     let waiting = i.waiting in
-    let level = (known program i.head i.body (result_of v) m.loadable.well_formed i.is).level in
+    let level = (known program i.head i.body i.result m.loadable.well_formed i.is).level in
     let set' = is.few in
     let room = is.room in
     let many = is.many in

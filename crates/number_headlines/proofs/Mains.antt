@@ -46,7 +46,6 @@ use Rattle.number_runs.specs.Variables.{HaveRoom, IsOwnArray, IsOwnNarrow, IsOwn
 use Rattle.number_runs.proofs.AreaKnown.{all_held, held_area, held_array, held_narrow, held_pointer, held_word}
 use Rattle.number_runs.proofs.BlocksTaken.{words_set}
 use Rattle.number_runs.proofs.Words.{room_fewer}
-use Rattle.number_runs.proofs.Variables.{fixed_is}
 use Rattle.number_headlines.specs.Programs.{are_all_known, are_inner, body_of, callable_ones, has_main, is_main}
 use Rattle.number_headlines.specs.Programs.{staying_ones}
 use Rattle.number_headlines.specs.Programs.{has_result, is_body, most_bytes, most_waiting, most_words, are_held}
@@ -83,45 +82,52 @@ none_of : {A : Type 0} (xs : List A) → has_none xs ≡ true → xs ≡ []
 none_of [] h = refl
 none_of (x ∷ xs) h = absurd (cc h)
 
-abbrev pub result_of : (valued : Bool) → Option Y.LeafType
-result_of false = None
-result_of true = Some (Y.FixedLeaf 31)
+-- what a procedure, or a function, returns
+abbrev pub result_by : (valued : Bool) → (precision : ℕ) → Option Y.LeafType
+result_by false precision = None
+result_by true precision = Some (Y.FixedLeaf precision)
 
-pub result_is : (valued : Bool) (t : Option Y.LeafType) → has_result valued t ≡ true → t ≡ result_of valued
-result_is false None h = refl
+pub record IsResult (valued : Bool) (t : Option Y.LeafType) : Type 0 where
+  pub precision : ℕ
+  pub few : precision ≤ 31
+  pub is : t ≡ result_by valued precision
+
+pub result_is : (valued : Bool) (t : Option Y.LeafType) → has_result valued t ≡ true → IsResult valued t
+result_is false None h = record { precision = 0; few = omega arith; is = refl }
 result_is false (Some t) h = absurd (cc h)
 result_is true None h = absurd (cc h)
-result_is true (Some t) h = ap (λ u. Some u) (fixed_is t h)
+result_is true (Some (Y.FixedLeaf precision)) h =
+    record { precision = precision; few = leb-true precision 31 h; is = refl }
+result_is true (Some (Y.CharacterLeaf size)) h = absurd (cc h)
+result_is true (Some (Y.VaryingLeaf size)) h = absurd (cc h)
+result_is true (Some Y.BitLeaf) h = absurd (cc h)
+result_is true (Some Y.PointerLeaf) h = absurd (cc h)
+result_is true (Some (Y.OffsetLeaf area)) h = absurd (cc h)
+result_is true (Some (Y.AreaLeaf size)) h = absurd (cc h)
 
 block_is : (b : Y.Block) → b ≡ Y.BlockOf (head_of b) (body_of b)
 block_is (Y.BlockOf head body) = refl
 
 pub received_is :
-    (valued : Bool) (p : Y.Procedure) → has_result valued p.result ≡ true →
+    (p : Y.Procedure) →
     p
     ≡ record {
       block = Y.BlockOf (head_of p.block) (body_of p.block);
       parameters = p.parameters;
-      result = result_of valued;
+      result = p.result;
     }
-received_is valued p g =
-    let head = head_of p.block in
-    let body = body_of p.block in
-    ap (λ x. record p { block = x }) (block_is p.block)
-    ∙ ap (λ (x : Option Y.LeafType).
-    let q : Y.Procedure = record { block = Y.BlockOf head body; parameters = p.parameters; result = x } in q)
-    (result_is valued p.result g)
+received_is p = ap (λ x. record p { block = x }) (block_is p.block)
 
 pub procedure_is :
-    (valued : Bool) (p : Y.Procedure) → has_none p.parameters ≡ true → has_result valued p.result ≡ true →
-    p ≡ record { block = Y.BlockOf (head_of p.block) (body_of p.block); parameters = []; result = result_of valued }
-procedure_is valued p h g =
-    received_is valued p g
+    (p : Y.Procedure) → has_none p.parameters ≡ true →
+    p ≡ record { block = Y.BlockOf (head_of p.block) (body_of p.block); parameters = []; result = p.result }
+procedure_is p h =
+    received_is p
     ∙ ap (λ (ns : List ℕ).
     let q : Y.Procedure = record {
       block = Y.BlockOf (head_of p.block) (body_of p.block);
       parameters = ns;
-      result = result_of valued;
+      result = p.result;
     } in q) (none_of p.parameters h)
 
 -- its program, with what the class says of it
@@ -171,7 +177,10 @@ main_is program called p ps e known load fits h =
       head = head;
       body = body;
       others = ps;
-      main = e ∙ ap (λ x. x ∷ ps) (procedure_is false p a.0 b.0);
+      main = e ∙ ap (λ x. x ∷ ps) (procedure_is p a.0
+          ∙ ap (λ (t : Option Y.LeafType).
+          let q : Y.Procedure = record { block = Y.BlockOf head body; parameters = []; result = t } in q)
+          (result_is false p.result b.0).is);
       known = known;
       own = d.0;
       loadable = load;

@@ -27,3 +27,4 @@ pub mod BeginRows
 pub mod ReadRows
 pub mod SearchRows
 pub mod QuestRows
+pub mod FewerRows

@@ -10,7 +10,7 @@ use Rattle.pli_coding.specs.Frames.{parameters_of_block}
 use Rattle.pli_coding.specs.Registers.{held_registers}
 use Rattle.pli_coding.specs.SignatureTable.{with_signatures}
 use Rattle.program_places.specs.Programs.{environment_for}
-use Rattle.number_runs.specs.Numbers.{Names, Scope, has_none, is_fixed, is_parameter, is_parameter_if}
+use Rattle.number_runs.specs.Numbers.{Names, Scope, has_none, is_parameter, is_parameter_if}
 use Rattle.number_runs.specs.Statements.{are_statements, begins_need, statements_need, statements_set}
 use Rattle.number_runs.specs.Areas.{held_bytes}
 use Rattle.number_runs.specs.Variables.{are_any, are_known, are_plain, bytes_of}
@@ -116,10 +116,14 @@ is_body s valued body =
 abbrev pub body_of : Y.Block → Y.Stmts
 body_of (Y.BlockOf head body) = body
 
--- a procedure returns nothing, and a function FIXED BINARY(31)
+-- a procedure returns nothing, and a function FIXED BINARY of any precision
+abbrev pub is_returnable : Y.LeafType → Bool
+is_returnable (Y.FixedLeaf precision) = nat_le precision 31
+is_returnable type = false
+
 abbrev pub has_result : (valued : Bool) → Option Y.LeafType → Bool
 has_result false None = true
-has_result true (Some type) = is_fixed type
+has_result true (Some type) = is_returnable type
 has_result valued type = false
 
 abbrev pub is_valued : Option Y.LeafType → Bool

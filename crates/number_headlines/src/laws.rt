@@ -16,6 +16,7 @@ ghost use Rattle.number_headlines.specs.Headlines.{NumberHeadlinesKept};
 ghost use Rattle.number_headlines.specs.InitialRows.{InitialKept};
 ghost use Rattle.number_headlines.specs.LentRows.{LentKept};
 ghost use Rattle.number_headlines.specs.LoopRows.{LoopsKept};
+ghost use Rattle.number_headlines.specs.FewerRows.{FarKept};
 ghost use Rattle.number_headlines.specs.HolderRows.{HolderKept};
 ghost use Rattle.number_headlines.specs.NestRows.{NestKept};
 ghost use Rattle.number_headlines.specs.PairRows.{PairKept};
@@ -226,6 +227,13 @@ pub fn search_kept()
 /// leaves all of these for a label.
 pub fn quest_kept()
     ensures { QuestKept }
+{
+    number_headlines_kept();
+}
+
+/// A worked row with functions of fewer bits: what one returns in a loop comes to have too many, which is raised.
+pub fn far_kept()
+    ensures { FarKept }
 {
     number_headlines_kept();
 }

@@ -13,6 +13,7 @@ pub mod Pointed
 pub mod Members
 pub mod Unset
 pub mod Taking
+pub mod Fewer
 pub mod Takes
 pub mod BlocksTaken
 pub mod BeginsSaved
@@ -30,5 +31,6 @@ pub mod Homes
 pub mod PointedAssignments
 pub mod Items
 pub mod Narrowed
+pub mod Returned
 pub mod Statements
 pub mod Uncounted

@@ -51,13 +51,14 @@ use Rattle.number_runs.specs.Numbers.{inside, test_needs, test_sets, without_loc
 use Rattle.number_runs.specs.Gets.{is_get}
 use Rattle.number_runs.specs.Puts.{is_put}
 use Rattle.number_runs.specs.Statements.{are_statements, behind_stored, is_line, is_statement, is_stored}
-use Rattle.number_runs.specs.Statements.{begin_needs, begins_need, statement_needs}
+use Rattle.number_runs.specs.Statements.{begin_needs, begins_need, statement_needs, is_fewer}
 use Rattle.number_runs.specs.Statements.{is_narrowed, statement_sets, statements_need, statements_set, stored_needs}
 use Rattle.number_runs.specs.Statements.{behind_sets, stored_sets, is_allocation, is_area_variable, is_freeing}
 use Rattle.number_runs.proofs.Counters.{IsCounting, counting_is, counting_of, statement_is}
 use Rattle.number_runs.proofs.Expressions.{number_does, test_does}
 use Rattle.number_runs.proofs.Homes.{Home, act_of, paid_for, knows, knows_in, has_test, given_does, lists_at}
-use Rattle.number_runs.proofs.Homes.{lists_in, returned_does}
+use Rattle.number_runs.proofs.Homes.{lists_in}
+use Rattle.number_runs.proofs.Returned.{each_returned}
 use Rattle.number_runs.proofs.Homes.{Coded, gone_does, calls_does, passed_does, not_true}
 use Rattle.number_runs.proofs.Homes.{allocated_does, copied_does, emptied_does, freed_does}
 use Rattle.number_runs.proofs.Narrowed.{narrowed_does}
@@ -540,13 +541,14 @@ mutual
       let b = and_parts h.scope.own (not h.valued) a.1 in
       ended_does h labels line index a.0 ((h.ready.home b.0).returns (not_true h.valued b.1)) at.linked
   statement_does h labels (Y.ReturnValue type source line) index placed is fits held sets at =
-      let rest = is_fixed type && is_stored h.scope source in
-      let a = and_parts (is_line line) (h.scope.own && (h.scope.returns && (h.valued && rest))) is in
-      let d = and_parts h.scope.own (h.scope.returns && (h.valued && rest)) a.1 in
-      let g = and_parts h.scope.returns (h.valued && rest) d.1 in
-      let b = and_parts h.valued rest g.1 in
-      let c = and_parts (is_fixed type) (is_stored h.scope source) b.1 in
-      returned_does h labels type source line index placed.includes a.0 d.0 g.0 b.0 c.0 c.1 fits sets at.linked
+      let one = is_fixed type && is_stored h.scope source in
+      let fewer = is_fewer h.scope type source in
+      let a = and_parts (is_line line) (h.scope.own && (h.scope.returns && (h.valued && (one || fewer)))) is in
+      let d = and_parts h.scope.own (h.scope.returns && (h.valued && (one || fewer))) a.1 in
+      let g = and_parts h.scope.returns (h.valued && (one || fewer)) d.1 in
+      let b = and_parts h.valued (one || fewer) g.1 in
+      each_returned h labels type source line index placed.includes a.0 d.0 g.0 b.0 (or_cases one fewer b.1) fits sets
+      at.linked
   statement_does h labels (Y.Goto level label line) index placed is fits held sets at =
       let near = h.scope.own && ((level == h.scope.level) && is_among label labels) in
       let a = and_parts (is_line line) (near || h.scope.is_outer level label) is in

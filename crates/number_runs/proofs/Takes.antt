@@ -39,7 +39,8 @@ use Rattle.number_runs.specs.Puts.{is_list}
 use Rattle.number_runs.specs.Puts.{put_item_needs, put_item_sets, put_items_need, put_items_set, put_needs, put_sets}
 use Rattle.number_runs.specs.Puts.{without_calls, without_functions}
 use Rattle.number_runs.specs.Statements.{are_statements, behind_stored, is_line, is_narrowed, is_statement, is_stored}
-use Rattle.number_runs.specs.Statements.{is_pointed, pointer_sets, statement_needs}
+use Rattle.number_runs.specs.Statements.{is_pointed, pointer_sets, statement_needs, is_fewer}
+use Rattle.number_runs.proofs.Fewer.{IsReturned, returned_is}
 use Rattle.number_runs.specs.Statements.{statement_sets, statements_need, statements_set, stored_needs, stored_sets}
 use Rattle.number_runs.specs.Statements.{allocation_sets, behind_sets, freeing_sets, is_allocation, is_freeing}
 use Rattle.number_runs.proofs.Arrays.{element_is, asked_is}
@@ -425,6 +426,17 @@ assigned_taken words s target (Y.StoredBit x) h g fits = absurd (cc g)
 assigned_taken words s target (Y.StoredPointer x) h g fits = absurd (cc g)
 assigned_taken words s target (Y.StoredOffset x) h g fits = absurd (cc g)
 
+-- a register is kept for what may be raised behind a number that is returned
+returned_taken :
+    (words : ℕ) (s : Scope) (x : Y.Stored) → IsReturned s x → stored_needs x ≤ held_registers →
+    Sets (max (stored_needs x) 1) (stored_sets x) (set_aside words) (stored_takes (set_aside words) x)
+returned_taken words s (Y.StoredNumber precision x) r fits =
+    let n = number_taken s x (set_aside words) (cc (r.is, r.known)) (omega (arith, fits)) in
+    let p = n.registers in
+    let u = n.words in
+    record { registers = omega (arith, p); words = omega (arith, u) }
+returned_taken words s x r fits = absurd (cc r.is)
+
 -- a name waits, and so does the one by which a member is reached
 pointed_taken :
     (words : ℕ) (s : Scope) (target : Y.Reference) (x : Y.Pointer) → is_pointed s target x ≡ true →
@@ -728,12 +740,13 @@ mutual
       (arguments_taken s xs (with_words (list_words xs) (set_aside words)) c.1 (omega (arith, fits)))
   statement_taken words s valued labels (Y.Return line) h fits = sets_none (set_aside words)
   statement_taken words s valued labels (Y.ReturnValue type source line) h fits =
-      let rest = is_fixed type && is_stored s source in
-      let a = and_parts (is_line line) (s.own && (s.returns && (valued && rest))) h in
-      let c = and_parts s.own (s.returns && (valued && rest)) a.1 in
-      let d = and_parts s.returns (valued && rest) c.1 in
-      let b = and_parts valued rest d.1 in
-      stored_taken words s source (and_parts (is_fixed type) (is_stored s source) b.1).1 fits
+      let one = is_fixed type && is_stored s source in
+      let fewer = is_fewer s type source in
+      let a = and_parts (is_line line) (s.own && (s.returns && (valued && (one || fewer)))) h in
+      let c = and_parts s.own (s.returns && (valued && (one || fewer))) a.1 in
+      let d = and_parts s.returns (valued && (one || fewer)) c.1 in
+      let b = and_parts valued (one || fewer) d.1 in
+      returned_taken words s source (returned_is s type source (or_cases one fewer b.1)) (omega (arith, fits))
   statement_taken words s valued labels (Y.Goto level label line) h fits = sets_none (set_aside words)
   statement_taken words s valued labels (Y.Stop line) h fits = sets_none (set_aside words)
   statement_taken words s valued labels (Y.AssignElements target source line) h fits = absurd (cc h)

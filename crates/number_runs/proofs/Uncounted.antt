@@ -1,6 +1,6 @@
 -- Where no loop may count, no call has an argument, and nothing that is BASED is reached, statements set no words of
 -- the frame aside.
-use Rattle.std.proofs.Common.{◌≡◌, ◌⊎◌, inl, inr, ℕ, ◌≤◌, List, [], ◌++◌, true, false, refl, sym, ◌∙◌, arith}
+use Rattle.std.proofs.Common.{◌≡◌, ◌⊎◌, inl, inr, ℕ, ◌≤◌, List, [], ◌++◌, true, false, refl, sym, ◌∙◌, arith, ap}
 use Rattle.std.specs.Prelude.{◌&&◌, ◌||◌, ◌==◌, Bool, max, None, Option, Some, suc, ◌∷◌}
 use Rattle.std.proofs.lemmas.Bool.{and_parts, or_cases}
 use Rattle.pli_typing.specs.TypedTree as Y
@@ -17,7 +17,8 @@ use Rattle.number_runs.specs.Numbers.{Scope, are_arguments, gives_lists, is_fixe
 use Rattle.number_runs.specs.Numbers.{is_item, is_narrow_with, reference_sets, is_text, without_given, IsBare}
 use Rattle.number_runs.specs.Numbers.{without_located}
 use Rattle.number_runs.specs.Statements.{are_statements, is_line, is_statement, is_stored, statement_needs}
-use Rattle.number_runs.specs.Statements.{behind_sets, is_allocation, is_freeing}
+use Rattle.number_runs.specs.Statements.{behind_sets, is_allocation, is_freeing, is_fewer}
+use Rattle.number_runs.proofs.Fewer.{IsReturned, returned_is}
 use Rattle.number_runs.specs.Statements.{is_narrowed, statement_sets, statements_need, statements_set, stored_sets}
 use Rattle.number_runs.specs.Variables.{are_plain}
 use Rattle.number_runs.proofs.Taking.{Takes}
@@ -37,6 +38,9 @@ stored_unset s (Y.StoredText x) none h = refl
 stored_unset s (Y.StoredBit x) none h = absurd (cc h)
 stored_unset s (Y.StoredPointer x) none h = absurd (cc h)
 stored_unset s (Y.StoredOffset x) none h = refl
+
+returned_unset : (s : Scope) (x : Y.Stored) → IsBare s → IsReturned s x → stored_sets x ≡ 0
+returned_unset s x none r = ap stored_sets r.is ∙ number_unset s r.number none r.known
 
 narrowed_unset :
     (s : Scope) (target : Y.Reference) (source : Y.Stored) → IsBare s → is_narrowed s target source ≡ true →
@@ -200,12 +204,13 @@ mutual
       absurd (cc (sym none.1.0 ∙ (and_parts s.gives s.counts b.0).0))
   statement_uncounted s valued labels (Y.Return line) none h = refl
   statement_uncounted s valued labels (Y.ReturnValue type source line) none h =
-      let rest = is_fixed type && is_stored s source in
-      let a = and_parts (is_line line) (s.own && (s.returns && (valued && rest))) h in
-      let c = and_parts s.own (s.returns && (valued && rest)) a.1 in
-      let d = and_parts s.returns (valued && rest) c.1 in
-      let b = and_parts valued rest d.1 in
-      stored_unset s source none.1 (and_parts (is_fixed type) (is_stored s source) b.1).1
+      let one = is_fixed type && is_stored s source in
+      let fewer = is_fewer s type source in
+      let a = and_parts (is_line line) (s.own && (s.returns && (valued && (one || fewer)))) h in
+      let c = and_parts s.own (s.returns && (valued && (one || fewer))) a.1 in
+      let d = and_parts s.returns (valued && (one || fewer)) c.1 in
+      let b = and_parts valued (one || fewer) d.1 in
+      returned_unset s source none.1 (returned_is s type source (or_cases one fewer b.1))
   statement_uncounted s valued labels (Y.Goto level label line) none h = refl
   statement_uncounted s valued labels (Y.Stop line) none h = refl
 

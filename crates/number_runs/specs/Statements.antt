@@ -47,6 +47,12 @@ is_narrowed s target (Y.StoredText x) =
 is_narrowed s target (Y.StoredPointer x) = is_pointed s target x
 is_narrowed s target _ = false
 
+-- a number of fewer bits on its way out of a function, which is tested
+abbrev pub is_fewer : Scope → Y.LeafType → Y.Stored → Bool
+is_fewer s type (Y.StoredNumber precision x) =
+    s.overflows && (nat_lt precision 31 && (has_precision precision type && is_number s x))
+is_fewer s type _ = false
+
 abbrev pub stored_needs : Y.Stored → ℕ
 stored_needs (Y.StoredNumber precision x) = number_needs x
 stored_needs (Y.StoredBit x) = test_needs x
@@ -132,7 +138,9 @@ abbrev mutual
       && are_arguments s (Y.ArgumentThen first rest)))
   is_statement s valued labels (Y.Return line) = is_line line && (s.own && not valued)
   is_statement s valued labels (Y.ReturnValue type source line) =
-      is_line line && (s.own && (s.returns && (valued && (is_fixed type && is_stored s source))))
+      is_line line
+      && (s.own
+      && (s.returns && (valued && ((is_fixed type && is_stored s source) || is_fewer s type source))))
   is_statement s valued labels (Y.Goto level label line) =
       is_line line && ((s.own && ((level == s.level) && is_among label labels)) || s.is_outer level label)
   is_statement s valued labels (Y.Stop line) = is_line line
@@ -170,7 +178,7 @@ abbrev mutual
   statement_needs (Y.DoCount counter start limit step condition body line) =
       max (count_needs start limit) (max (condition_needs condition) (statements_need body))
   statement_needs (Y.CallProcedure call line) = call_needs call
-  statement_needs (Y.ReturnValue type source line) = stored_needs source
+  statement_needs (Y.ReturnValue type source line) = max (stored_needs source) 1
   statement_needs (Y.Put skip pairs line) = put_needs pairs
   statement_needs _ = 0
 

@@ -38,12 +38,11 @@ use Rattle.nested_calls.proofs.NestedCalls.{call_coded, call_of, given_in}
 use Rattle.nested_calls.proofs.NestedFunctions.{deep_function_ends}
 use Rattle.number_runs.specs.Knowledge.{Includes, KnowsCalls, call_number, call_statement, most_set}
 use Rattle.number_runs.specs.Variables.{bytes_of}
-use Rattle.number_headlines.proofs.Mains.{result_of}
 use Rattle.unit_numbers.proofs.Callees.{callee_of, site_of}
 use Rattle.unit_numbers.proofs.Entered.{called_entered, called_part}
 use Rattle.unit_numbers.proofs.Full.{are_full}
 use Rattle.unit_numbers.proofs.Homes.{Home, IsHome'}
-use Rattle.unit_numbers.proofs.Inner.{Inner, inner_is, inner_set}
+use Rattle.unit_numbers.proofs.Inner.{Inner, inner_is, inner_set, precision_of, returns_so}
 use Rattle.unit_numbers.proofs.Mains.{Main, most_for, run_for}
 use Rattle.unit_numbers.proofs.Named.{Moment, are_made, bare_block, entered_at}
 use Rattle.unit_numbers.proofs.Established.{entry_low}
@@ -61,7 +60,7 @@ frame_fits :
 frame_fits {program} m h more b part out os a {v} i call p numbers =
     let words = inner_set m i in
     let waiting = i.fit.waiting in
-    let level = (known program i.head i.body (result_of v) m.loadable.well_formed i.is).level in
+    let level = (known program i.head i.body i.result m.loadable.well_formed i.is).level in
     let fits = a.free.fits in
     let used = a.free.used in
     let top = ap (λ ls. upper_top image_parts ls) a.free.newest in
@@ -109,7 +108,7 @@ call_by once {program} m h ih more b part out os a each own carries words set la
       low = omega (arith, set);
       line_fits = less;
       callee = callee_stands once program i.head i.body (run_for m h.input h.acts)
-          (site_of program more (entered_at i k call k.first (λ n. 0))) m.loadable i.is
+          (site_of program more (entered_at i k call k.first (λ n. 0))) m.loadable (returns_so i)
           (back_of given' last (back_of one (given' ++ last) l')) ih.few;
       frame = frame_fits m h more b part out os a i call k.first (λ n. 0);
       idle = a.idle;
@@ -120,7 +119,7 @@ call_by once {program} m h ih more b part out os a each own carries words set la
       inner = i.inside;
       parent = refl;
       found = subst (λ y. procedure_numbered i.head.number y.procedures
-          ≡ Some (record { block = Y.BlockOf i.head i.body; parameters = []; result = None })) (sym a.around) i.is;
+          ≡ Some (record { block = Y.BlockOf i.head i.body; parameters = []; result = None })) (sym a.around) (returns_so i);
       enter = subst (λ y. out.around.enter ≡ entered y (suc more)) (sym a.around) a.enter;
       around = ap (λ y. around_for y more) (sym a.around);
       enough = a.enough;
@@ -163,8 +162,8 @@ value_by once {program} m h ih more b part out os a each own carries words set l
     let inside = i.inside in
     let around = i.around_it in
     let within' = a.inside in
-    let stands = function_stands once program i.head i.body 31 (run_for m h.input h.acts)
-    (site_of program more (entered_at i k 0 k.first (λ n. 0))) m.loadable i.is (omega (arith, inside)) ih.few in
+    let stands = function_stands once program i.head i.body (precision_of i) (run_for m h.input h.acts)
+    (site_of program more (entered_at i k 0 k.first (λ n. 0))) m.loadable (returns_so i) (omega (arith, inside)) ih.few in
     let within = stands.stands.inside in
     let low = entry_low (program_environment program) i.head.number program.procedures (procedures_index program) in
     let is : IsNestedFunction z c level more = record {
@@ -176,9 +175,14 @@ value_by once {program} m h ih more b part out os a each own carries words set l
       around_it = omega (arith, around, within');
       inner = i.inside;
       parent = refl;
+      type = Y.FixedLeaf (precision_of i);
       found = subst (λ y. procedure_numbered i.head.number y.procedures
-          ≡ Some (record { block = Y.BlockOf i.head i.body; parameters = []; result = Some (Y.FixedLeaf 31) }))
-          (sym a.around) i.is;
+          ≡ Some (record {
+            block = Y.BlockOf i.head i.body;
+            parameters = [];
+            result = Some (Y.FixedLeaf (precision_of i));
+          }))
+          (sym a.around) (returns_so i);
       enter = subst (λ y. out.around.enter ≡ entered y (suc more)) (sym a.around) a.enter;
       around = ap (λ y. around_for y more) (sym a.around);
       enough = a.enough;

@@ -41,7 +41,6 @@ use Rattle.number_runs.specs.Variables.{words_in}
 use Rattle.number_runs.proofs.Words.{room_behind}
 use Rattle.number_headlines.proofs.FullWords.{words_at, words_count, words_lower}
 use Rattle.number_headlines.proofs.Loops.{after_waits, after_words}
-use Rattle.number_headlines.proofs.Mains.{result_of}
 use Rattle.number_headlines.proofs.Running.{free_among, table_later}
 use Rattle.number_headlines.proofs.Tables.{block_plain}
 use Rattle.condition_codes.specs.Codes.{HasCode}
@@ -50,7 +49,7 @@ use Rattle.unit_numbers.proofs.Arrays.{array_leaving, narrow_leaving}
 use Rattle.unit_numbers.proofs.Callees.{Called, callee_of}
 use Rattle.unit_numbers.proofs.Homes.{Home, world_of}
 use Rattle.unit_numbers.proofs.Hosts.{InForceBelow, IsNext, Part, force_next, in_force_below}
-use Rattle.unit_numbers.proofs.Inner.{Inner, inner_held, inner_ons, inner_set}
+use Rattle.unit_numbers.proofs.Inner.{Inner, inner_held, inner_ons, inner_set, precision_of, returns_so}
 use Rattle.unit_numbers.proofs.Mains.{Main}
 use Rattle.number_headlines.proofs.CalledLandings.{made_stacks}
 use Rattle.unit_numbers.proofs.Outer.{block_saves, frame_top}
@@ -166,11 +165,11 @@ called_home :
     (os : List Outer) → IsBegun (whole_block m h v more (entered_at i k call p numbers) os) →
     IsHome (called_scope m i) v (whole_block m h v more (entered_at i k call p numbers) os) left_over
 called_home once false {program} m h more i k call p numbers os b =
-    let end = end_is once program i.head i.body m.loadable i.is in
+    let end = end_is once program i.head i.body m.loadable (returns_so i) in
     record {
       level = refl;
       own = refl;
-      block = own_block program i.head i.body None i.is;
+      block = own_block program i.head i.body i.result i.is;
       returns = λ e. inl (record {
         owner = refl;
         end = end.place;
@@ -185,11 +184,12 @@ called_home once false {program} m h more i k call p numbers os b =
     }
 called_home once true {program} m h more i k call p numbers os b =
     let inside = i.inside in
-    let end = function_end_is once program i.head i.body 31 m.loadable i.is (omega (arith, inside)) in
+    let end = function_end_is once program i.head i.body (precision_of i) m.loadable (returns_so i)
+    (omega (arith, inside)) in
     record {
       level = refl;
       own = refl;
-      block = own_block program i.head i.body (Some (Y.FixedLeaf 31)) i.is;
+      block = own_block program i.head i.body i.result i.is;
       returns = λ e. absurd (cc e);
       values = λ may e. record {
         owner = refl;
@@ -243,7 +243,7 @@ called_entered once {program} m {h} {more} {b} {part} {out} {os} {p} {numbers} o
     let f = free_among (suc b) o.at.begun o.among o.at.free in
     let words = inner_set m i in
     let waiting = i.fit.waiting in
-    let high = (known program i.head i.body (result_of v) m.loadable.well_formed i.is).level in
+    let high = (known program i.head i.body i.result m.loadable.well_formed i.is).level in
     let used = f.used in
     let fits = f.fits in
     let under = f.under in
@@ -313,7 +313,7 @@ called_entered once {program} m {h} {more} {b} {part} {out} {os} {p} {numbers} o
         statements = λ unit. absurd (cc unit);
         needs = inner_held m i;
         waiting = i.fit.waiting;
-        placed = body_placed once program i.head i.body (result_of v) m.loadable i.is;
+        placed = body_placed once program i.head i.body i.result m.loadable i.is;
       };
       words = after_words serial φ xs ∙ inner_set m i;
       clear = λ n. ap (λ waits. waits n) (after_waits serial φ xs);
@@ -336,7 +336,7 @@ called_entered once {program} m {h} {more} {b} {part} {out} {os} {p} {numbers} o
           placed = λ label among.
               label_of (links_for program) (linked_code (code_for program)) (body_for program i.head i.body) e
               none_taken
-              i.body (body_placed once program i.head i.body (result_of v) m.loadable i.is) label among;
+              i.body (body_placed once program i.head i.body i.result m.loadable i.is) label among;
         };
       };
     }

@@ -24,7 +24,6 @@ use Rattle.number_runs.specs.Variables.{bytes_of}
 use Rattle.number_runs.proofs.Words.{places_are, words_code}
 use Rattle.number_headlines.proofs.Begins.{begins_at, block_begins}
 use Rattle.number_headlines.proofs.FullWords.{words_over}
-use Rattle.number_headlines.proofs.Mains.{result_of}
 use Rattle.number_headlines.proofs.Running.{free_among, table_later}
 use Rattle.number_headlines.proofs.Tables.{all_known, block_plain}
 use Rattle.unit_numbers.proofs.Callees.{callee_of}
@@ -59,7 +58,7 @@ are_full {program} m {h} {more} {b} {part} {out} {os} {p} {numbers} o {v} i call
     let around = at_line c.around head.line in
     let plain = block_plain program.variables i.head.number m.plain in
     let count = plain.room in
-    let is = known program i.head i.body (result_of v) m.loadable.well_formed i.is in
+    let is = known program i.head i.body i.result m.loadable.well_formed i.is in
     let kind = is.kind in
     let level = is.level in
     let words = inner_set m i in
@@ -88,7 +87,7 @@ are_full {program} m {h} {more} {b} {part} {out} {os} {p} {numbers} o {v} i call
     (record { parts = refl; acts = few }) plain.plain
     (table_later program o.among.later.remains o.at.tabled i.head)
     (begins_at program ds p.places.constants (o.among.later.remains.constants ∙ o.at.told.constants)
-    (block_begins program head i.body [] (result_of v) m.memory (all_known program.variables m.plain) i.is))
+    (block_begins program head i.body [] i.result m.memory (all_known program.variables m.plain) i.is))
     (record { activation = _; below = _; active = refl; some = omega arith })
     (record {
       newest = refl;

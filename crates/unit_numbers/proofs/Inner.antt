@@ -21,7 +21,7 @@ use Rattle.number_runs.specs.Statements.{statements_need, statements_set}
 use Rattle.number_runs.proofs.Taking.{Sets}
 use Rattle.number_headlines.specs.Programs.{body_of, has_result, is_callable, is_declared_if, is_valued, most_waiting}
 use Rattle.number_headlines.specs.Programs.{stand_alike}
-use Rattle.number_headlines.proofs.Mains.{procedure_is, result_of}
+use Rattle.number_headlines.proofs.Mains.{procedure_is, result_by, result_is}
 use Rattle.number_headlines.proofs.Tables.{block_plain}
 use Rattle.unit_runs.specs.Establishing.{OnUnit}
 use Rattle.phase_runs.specs.Units.{IsListed}
@@ -58,7 +58,9 @@ pub record Inner {program : Y.Program} (m : Main program) (caller : Y.BlockHead)
   where
     pub head : Y.BlockHead
     pub body : Y.Stmts
-    pub is : IsProcedure program head body (result_of valued)
+    pub result : Option Y.LeafType
+    pub returns : has_result valued result ≡ true
+    pub is : IsProcedure program head body result
     pub numbered : head.number ≡ number
     pub inside : head.level ≡ suc level
     pub around_it : level ≤ caller.level
@@ -150,9 +152,9 @@ inner_is {program} m caller valued level number h =
         record {
           head = head;
           body = body;
-          is =
-              ap (λ k. procedure_numbered k program.procedures) n ∙ e
-              ∙ ap (λ q. Some q) (procedure_is valued p i.0 b.0);
+          result = p.result;
+          returns = b.0;
+          is = ap (λ k. procedure_numbered k program.procedures) n ∙ e ∙ ap (λ q. Some q) (procedure_is p i.0);
           numbered = n;
           inside = eqb-true head.level (suc level) c.0;
           around_it = leb-true level caller.level d.0;
@@ -198,12 +200,26 @@ pub inner_ons :
 inner_ons once {program} m {valued = valued} {number = number} i e there =
     let low = entry_low (program_environment program) i.head.number program.procedures (procedures_index program) in
     let found = subst (λ n. procedure_numbered n program.procedures
-    ≡ Some (record { block = Y.BlockOf i.head i.body; parameters = []; result = result_of valued })) i.numbered i.is in
+    ≡ Some (record { block = Y.BlockOf i.head i.body; parameters = []; result = i.result })) i.numbered i.is in
     ons_are m i.head i.body valued (labels_in i.body ++ []) i.body (body_for program i.head i.body)
-    (known program i.head i.body (result_of valued) m.loadable.well_formed i.is).level (omega (arith, low))
-    (body_placed once program i.head i.body (result_of valued) m.loadable i.is) i.fit.steps
+    (known program i.head i.body i.result m.loadable.well_formed i.is).level (omega (arith, low))
+    (body_placed once program i.head i.body i.result m.loadable i.is) i.fit.steps
     (λ x h.
     listed_back x (ons_of m) (called_placed program m.called)
     (called_listed program number m.called i.listed x
     (subst (λ o. IsListed x (placed_if program o)) (sym found) h)))
     e there
+
+-- ---- what it returns
+
+unfoldable pub precision_of :
+    {program : Y.Program} {m : Main program} {caller : Y.BlockHead} {v : Bool} {level number : ℕ} →
+    Inner m caller v level number → ℕ
+precision_of {v = v} i = (result_is v i.result i.returns).precision
+
+pub returns_so :
+    {program : Y.Program} {m : Main program} {caller : Y.BlockHead} {v : Bool} {level number : ℕ}
+    (i : Inner m caller v level number) → IsProcedure program i.head i.body (result_by v (precision_of i))
+unfolding precision_of
+returns_so {program} {v = v} i =
+    subst (λ t. IsProcedure program i.head i.body t) (result_is v i.result i.returns).is i.is

@@ -49,7 +49,7 @@ use Rattle.number_runs.proofs.Words.{all_words, own_array, own_narrow, own_word,
 use Rattle.number_headlines.specs.Programs.{are_all_plain, body_of, has_result, most_waiting, most_words}
 use Rattle.number_headlines.specs.Programs.{places_to}
 use Rattle.number_headlines.proofs.Places.{around_is}
-use Rattle.number_headlines.proofs.Mains.{made_for, procedure_is, spare}
+use Rattle.number_headlines.proofs.Mains.{made_for, procedure_is, result_is, spare}
 use Rattle.number_headlines.proofs.Begins.{block_begins}
 use Rattle.number_headlines.proofs.Tables.{all_known, block_plain, has_table}
 use Rattle.unit_runs.specs.Establishing as T
@@ -131,7 +131,10 @@ main_is program (p ∷ ps) e plain load memory h =
       head = head;
       body = body;
       others = ps;
-      main = e ∙ ap (λ x. x ∷ ps) (procedure_is false p a.0 b.0);
+      main = e ∙ ap (λ x. x ∷ ps) (procedure_is p a.0
+          ∙ ap (λ (t : Option Y.LeafType).
+          let q : Y.Procedure = record { block = Y.BlockOf head body; parameters = []; result = t } in q)
+          (result_is false p.result b.0).is);
       plain = plain;
       loadable = load;
       memory = memory;

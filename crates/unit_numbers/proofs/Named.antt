@@ -38,7 +38,6 @@ use Rattle.number_runs.specs.Variables.{HasWords, HaveRoom, bytes_of, words_in}
 use Rattle.number_runs.proofs.Words.{all_words, function_array, function_word, own_array, own_word, room_fewer}
 use Rattle.number_runs.proofs.Words.{function_narrow, own_narrow}
 use Rattle.number_headlines.specs.Programs.{places_to}
-use Rattle.number_headlines.proofs.Mains.{result_of}
 use Rattle.number_headlines.proofs.Places.{alike_at, around_is, is_around}
 use Rattle.number_headlines.proofs.Running.{free_among, table_later}
 use Rattle.number_headlines.proofs.Begins.{begins_at, block_begins}
@@ -115,7 +114,7 @@ begun_room {program} m {h} {more} {b} {part} {out} {os} {p} {numbers} o {v} i c 
     let words = ap (λ (x : Procedure). x.words) is ∙ inner_set m i in
     let waiting = i.fit.waiting in
     let inside = ap (λ (x : Procedure). x.head.level) is in
-    let level = (known program i.head i.body (result_of v) m.loadable.well_formed i.is).level in
+    let level = (known program i.head i.body i.result m.loadable.well_formed i.is).level in
     let few = (block_plain program.variables i.head.number m.plain).room in
     let fits = f.fits in
     let even = f.even in
@@ -147,7 +146,7 @@ has_words {program} m {h} {more} {b} {part} {out} {os} {p = p} {numbers = number
     let n = bytes_of (variables_of_block program i.head.number) in
     let plain = block_plain program.variables i.head.number m.plain in
     record {
-      kind = (known program i.head i.body (result_of v) m.loadable.well_formed i.is).kind;
+      kind = (known program i.head i.body i.result m.loadable.well_formed i.is).kind;
       coded = refl;
       block = refl;
       level = refl;
@@ -160,7 +159,7 @@ has_words {program} m {h} {more} {b} {part} {out} {os} {p = p} {numbers = number
       tabled = table_later program o.among.later.remains o.at.tabled i.head;
       begin = begins_at program (variables_of_block program i.head.number) p.places.constants
           (o.among.later.remains.constants ∙ o.at.told.constants)
-          (block_begins program i.head i.body [] (result_of v) m.memory (all_known program.variables m.plain) i.is);
+          (block_begins program i.head i.body [] i.result m.memory (all_known program.variables m.plain) i.is);
       room = room_fewer w (begun_at w c p numbers) (layer_for w p numbers c.procedure c.calling) p.control.layers
           (fixed_size i.head.level 0) n (n + 0) (omega arith) (begun_room m o i c refl pass);
     }
@@ -209,7 +208,7 @@ pub is_inside :
     IsInside (block_of m h out os)
     (callee_of program v more (entered_at i (block_of m h out os) call p numbers)) level
 is_inside {program} m o {v = v} i call =
-    let level = (known program i.head i.body (result_of v) m.loadable.well_formed i.is).level in
+    let level = (known program i.head i.body i.result m.loadable.well_formed i.is).level in
     let around = i.around_it in
     let inside = o.at.inside in
     record {
@@ -464,7 +463,7 @@ stands_at {program} {caller = caller} {v} {level} i x h =
         let same : x.level ≡ i.head.level = omega (arith, less, inside, high) in
         inr (
           there.1 ∙ ap (λ n. block_around (environment_for program i.head) n) same
-              ∙ own_block program i.head i.body (result_of v) i.is,
+              ∙ own_block program i.head i.body i.result i.is,
           same,
         )
 

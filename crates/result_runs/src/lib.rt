@@ -1,0 +1,4 @@
+// Functions that return numbers of fewer bits, or bits.
+#![tactic(auto)]
+
+pub mod laws;
