@@ -523,7 +523,7 @@ value_by once {program} m input acts valued more b a few h lands each words set 
     let body = body_for program i.head i.body in
     each_ends inner i.body body list'
     (are_marked (links_for program) (linked_code (code_for program)) body (environment_for program i.head) i.body
-    (body_placed once program i.head i.body (Some (Y.FixedLeaf 31)) m.loadable i.is))
+    (body_placed once program i.head i.body i.result m.loadable i.is))
     (each true (with_outers os r) b (entered_leaving r os (entered once m at i call pass shallow bare) list'.begun)
     (called_landings m at lands labels named i call pass bare))
     (system_ends inner i.body body [] list' (unraised_there m at i call C.Error))))
