@@ -61,4 +61,5 @@ pub mod HolderRows
 pub mod BeginRows
 pub mod ReadRows
 pub mod SearchRows
+pub mod EscapeRows
 pub mod QuestRows

@@ -26,4 +26,5 @@ pub mod HolderRows
 pub mod BeginRows
 pub mod ReadRows
 pub mod SearchRows
+pub mod EscapeRows
 pub mod QuestRows
