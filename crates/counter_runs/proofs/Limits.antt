@@ -116,7 +116,8 @@ beside limit z b = (6, word limit) ∷ (10, word z) ∷ []
 
 -- past so many words unless one register is at least another
 by_order :
-    {R : Type 0} {links : Links} {code : List Instr} {i : ℕ} {g : Ground} {v : Services} {h t : ℕ → ℕ} {rs : Base → List (ℕ × ℕ)}
+    {R : Type 0} {links : Links} {code : List Instr} {i : ℕ} {g : Ground} {v : Services} {h t : ℕ → ℕ} {rs : Base →
+    List (ℕ × ℕ)}
     {aims : Aims R} (s : State) (k : ℕ) (one other : Meaning R) (p : Bool)
     (closed : Closed code aims) (c : ℕ) (f : Family) (r q : Register) (behind : ℕ) → i + 3 + behind ≤ length code →
     Linked links code i (skip_where Test.GreaterOrEqual r q (JumpAhead behind ∷ [])) →

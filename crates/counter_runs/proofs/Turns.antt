@@ -25,8 +25,10 @@ use Rattle.pli_coding.specs.Expressions.{bit_code, number_code}
 use Rattle.pli_coding.specs.Instructions.{number, service, skip_where, small}
 use Rattle.pli_coding.specs.Registers.{a0, a1, zero_register}
 use Rattle.rv_meaning.specs.declared.instr.BranchTest.TheVariants as Test
-use Rattle.pli_coding.specs.Statements.{in_turns, limit_code, limit_tested, start_code, started_code, step_kept, while_kept}
-use Rattle.pli_coding.specs.Statements.{stmt_code, stmts_code, turn_of, turns_code, words_back, words_behind_condition, words_behind_limit}
+use Rattle.pli_coding.specs.Statements.{in_turns, limit_code, limit_tested, start_code, started_code, step_kept}
+use Rattle.pli_coding.specs.Statements.{while_kept}
+use Rattle.pli_coding.specs.Statements.{stmt_code, stmts_code, turn_of, turns_code, words_back, words_behind_condition}
+use Rattle.pli_coding.specs.Statements.{words_behind_limit}
 use Rattle.pli_coding.specs.Storing.{word_stored}
 use Rattle.activation_relation.specs.Changes.{with_line}
 use Rattle.activation_relation.specs.FrameLaws.{with_waits}

@@ -16,7 +16,8 @@ use Rattle.element_runs.specs.Subscripts.{IsSubscript, SubscriptComes}
 use Rattle.test_runs.specs.Choices.{IsInnerWith}
 use Rattle.counter_runs.specs.Counters.{IsCounter}
 use Rattle.counter_runs.specs.Counts.{IsStep}
-use Rattle.counter_runs.specs.Counts.{Counting, IsCount, IsTested, TurnDoes, body_index, count_of, setting_with, starting}
+use Rattle.counter_runs.specs.Counts.{Counting, IsCount, IsTested, TurnDoes, body_index, count_of, setting_with}
+use Rattle.counter_runs.specs.Counts.{starting}
 use Rattle.counter_runs.specs.Counts.{turning}
 use Rattle.counter_runs.specs.Words.{telling}
 

@@ -243,7 +243,8 @@ formats_known input acts fs b are has placed =
     list_placed sum_program (sum_block input acts) fs sum_fits
     (main_of_program sum_program (run_of input acts) (sum_block input acts) refl refl refl b) are has placed
 
-read_formats : (input : List ℕ) (acts : ℕ) → IsBegun (sum_block input acts) → KnowsFormats (sum_block input acts) (of_width 4 3)
+read_formats : (input : List ℕ) (acts : ℕ) → IsBegun (sum_block input acts) → KnowsFormats (sum_block input acts)
+    (of_width 4 3)
 unfolding L.formats_move_data
 read_formats input acts b =
     formats_known input acts (of_width 4 3) b ((omega arith, omega arith), ((omega arith, omega arith), tt)) refl refl
@@ -296,7 +297,8 @@ put_is input acts few b =
 
 assigns :
     (input : List ℕ) (acts line index need : ℕ) (source : Y.Number) → acts + 1 < 2 ^ 64 →
-    IsBegun (sum_block input acts) → line < 2 ^ 31 → need ≤ 1 → StandsAt index (coded (assignment sum_spot source line)) →
+    IsBegun (sum_block input acts) → line < 2 ^ 31 → need ≤ 1 → StandsAt index (coded (assignment sum_spot source
+    line)) →
     size_of (coded (assignment sum_spot source line)) + 100 ≤ length (linked_code sum_code) →
     IsAssignment (sum_block input acts) sum_spot source line index need 100
 assigns input acts line index need source few b low room l paid =

@@ -312,7 +312,8 @@ item_is u a behind r typed =
     ap (awaited behind) (field_is u.block.environment (set_aside u.words) u.formats r a.fixed a.text typed)
 
 regrouped :
-    {links : Links} {code : List Instr} {i : ℕ} (behind : ℕ) (field : Code) → Linked links code i (awaited behind field) →
+    {links : Links} {code : List Instr} {i : ℕ} (behind : ℕ) (field : Code) → Linked links code i (awaited behind
+    field) →
     Linked links code i (controls_carried_out ++ (choosing (size_of field + behind) ++ field))
 regrouped behind field l = l
 
@@ -346,7 +347,8 @@ record IsBehind (u : Reads) (d : Due) (behind wanted i : ℕ) (field : Code) : T
   exit : i + behind ≡ u.exit
 
 found_comes :
-    (u : Reads) → AreRead u → (r : Y.Reference) → ((place : EditPlace) → IsTarget (within place (setting_in u)) u.need r) →
+    (u : Reads) → AreRead u → (r : Y.Reference) → ((place : EditPlace) → IsTarget (within place (setting_in u)) u.need
+    r) →
     (d : Due) (acts' behind wanted i : ℕ) →
     IsBehind u d behind wanted i (plain_field u.block.environment (set_aside u.words) r) → (c : ℕ) (f : Family)
     (v : Services) (next : DataItem × List FormatItem) (s : State) → Found (loop_of u d acts') c f v next s →
@@ -422,7 +424,8 @@ found_comes u a r target d acts' behind wanted i is c f v next s o =
 
 -- from a point where it is due on
 pub item_comes :
-    (u : Reads) → AreRead u → (r : Y.Reference) → ((place : EditPlace) → IsTarget (within place (setting_in u)) u.need r) →
+    (u : Reads) → AreRead u → (r : Y.Reference) → ((place : EditPlace) → IsTarget (within place (setting_in u)) u.need
+    r) →
     (d : Due) (acts' behind wanted i : ℕ) → IsDue u d acts' (size_of (item_code u behind r)) →
     Linked u.block.call.surroundings.links u.block.call.code d.index (item_code u behind r) →
     d.index + size_of (item_code u behind r) ≡ i → i + behind ≡ u.exit →

@@ -450,7 +450,8 @@ is_found :
     (z : Loop) (rest left' : List FormatItem) (item : DataItem) → IsItem z.kinds item → {p : Point}
     (h : frame_of z.block p) → Here z rest p → current (list_of z) rest ≡ DataFormat item ∷ left' →
     AreItems z.kinds left' → (c : ℕ) (f : Family) → c ≤ z.credits + 5 →
-    Stands z p h (z.index + 5) (valued (number_in p (DataFormat item))) f → Found z c f (services_of p) (item, left') p.state
+    Stands z p h (z.index + 5) (valued (number_in p (DataFormat item))) f → Found z c f (services_of p) (item, left')
+    p.state
 is_found z rest left' item fits {p} h here is are c f few at =
     record {
       rest = rest;

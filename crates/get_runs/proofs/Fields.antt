@@ -12,7 +12,8 @@ use Rattle.pli_typing.specs.Signatures.{Fixed}
 use Rattle.pli_typing.specs.TypedTree as Y
 use Rattle.pli_meaning.specs.BasicValues.{BasicNumber, BasicValue}
 use Rattle.pli_meaning.specs.Codes.{conversion_code, endfile_code}
-use Rattle.pli_meaning.specs.Control.{Flow, Label, Meaning, act, choose, flow_on, give, given, looked, stored, stuck, ◌>>=◌}
+use Rattle.pli_meaning.specs.Control.{Flow, Label, Meaning, act, choose, flow_on, give, given, looked, stored, stuck}
+use Rattle.pli_meaning.specs.Control.{◌>>=◌}
 use Rattle.pli_meaning.specs.Control.{◌>>◌}
 use Rattle.pli_meaning.specs.DeclaredShapes.{kind_of}
 use Rattle.pli_meaning.specs.Evaluating.{designated}
@@ -287,7 +288,8 @@ number_comes :
     c + size_of (status_tested ++ stored_code u n) ≤ n.wanted →
     i + size_of (status_tested ++ stored_code u n) ≡ n.end →
     Stands u n (taken_point u n) h i
-    (two (λ b. number_first (x b) (number_in_text (field_text n))) (λ b. number_status (number_in_text (field_text n)))) f →
+    (two (λ b. number_first (x b) (number_in_text (field_text n))) (λ b. number_status (number_in_text (field_text
+    n)))) f →
     Comes u.block.call.code c f (services_of (taken_point u n)) (kept_aims u n)
     (P.number_got (setting_in u).around (Some (field_text n)) u.block.call.surroundings.acts (taken_point u n).state)
 unfolding P.number_got give ◌>>=◌
@@ -307,7 +309,8 @@ number_comes u a n is less h c i f x l paid enough end at =
     comes_on w.acts (R.or_error around conversion_code o w.acts q.state) next'
     (status_comes u a n closed refl q h c i f among is.line (front_of status_tested (stored_code u n) l)
     (omega (arith, paid, n0)) x o at
-    (λ c1 f1 v1 height label s j. jumps_since (omega (arith, since)) (jumps_down (place_of u n.left') u.block u.labels j))
+    (λ c1 f1 v1 height label s j. jumps_since (omega (arith, since)) (jumps_down (place_of u n.left') u.block u.labels
+    j))
     (λ z g e at1.
     record {
       to = λ early.

@@ -57,9 +57,11 @@ use Rattle.edit_runs.specs.Edits.{AreItems, IsFixed, KnowsFormats, has_data, kin
 use Rattle.edit_runs.specs.Writing.{with_edits}
 use Rattle.edit_runs.proofs.ListKinds.{formats_are}
 use Rattle.edit_runs.proofs.Places.{edits_among, edits_in, over_place}
-use Rattle.get_runs.specs.Gets.{AreListed, AreTargets, EndfileComes, GetList, ListsHaveTargets, get_items, get_pairs, getting}
+use Rattle.get_runs.specs.Gets.{AreListed, AreTargets, EndfileComes, GetList, ListsHaveTargets, get_items, get_pairs}
+use Rattle.get_runs.specs.Gets.{getting}
 use Rattle.get_runs.proofs.Awaiting.{item_code, item_comes}
-use Rattle.get_runs.proofs.Items.{AreRead, Due, HasEnded, HasLeft, IsDue, Reads, ended_later, got_aims, setting_in, whole_in}
+use Rattle.get_runs.proofs.Items.{AreRead, Due, HasEnded, HasLeft, IsDue, Reads, ended_later, got_aims, setting_in}
+use Rattle.get_runs.proofs.Items.{whole_in}
 
 -- ---- items
 
@@ -433,7 +435,11 @@ lists_come x a [] listed targets acts' c wanted i j f {p} {numbers} o at since b
     let h = point_frame o.stands o.image in
     record {
       to = λ early.
-          done_owing (statement_closed k x.labels acts' j wanted x.left') (x.debt + 2) wanted (omega (arith, begun, end))
+          done_owing (statement_closed k x.labels acts' j wanted x.left') (x.debt + 2) wanted (omega (
+            arith,
+            begun,
+            end,
+          ))
           (ahead_piece {t = λ n. 0} {rs = nothing} c f 2 (omega (arith, inside, end))
           (record { reserved_stay = λ y t. refl; known_stay = λ b y t z. z; set = λ y t. refl }) l
           (λ b. known_in h (there b) tt)) tt p.state

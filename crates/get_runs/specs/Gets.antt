@@ -43,7 +43,8 @@ getting whole rest = record { direction = Getting; whole = whole; rest = rest }
 -- ---- behind a part of the statement
 
 -- such a point, with the statement's line
-pub record GoesBehind (k : Block) (acts current index wanted credits : ℕ) (f : Family) (v : Services) (s : State) : Type 0
+pub record GoesBehind (k : Block) (acts current index wanted credits : ℕ) (f : Family) (v : Services) (s : State) :
+    Type 0
   where
     pub goes : GoesOn k acts index wanted credits f v s
     pub line : goes.point.control.line ≡ current

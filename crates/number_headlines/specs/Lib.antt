@@ -26,5 +26,6 @@ pub mod HolderRows
 pub mod BeginRows
 pub mod ReadRows
 pub mod SearchRows
+pub mod EscapeRows
 pub mod QuestRows
 pub mod FewerRows

@@ -7,6 +7,7 @@ ghost use Rattle.number_headlines.specs.BeginRows.{BeginsKept};
 ghost use Rattle.number_headlines.specs.CallRows.{CallingKept};
 ghost use Rattle.number_headlines.specs.ChainRows.{ChainKept};
 ghost use Rattle.number_headlines.specs.CountRows.{CountingKept};
+ghost use Rattle.number_headlines.specs.EscapeRows.{EscapeKept};
 ghost use Rattle.number_headlines.specs.EuclidRows.{EuclidKept};
 ghost use Rattle.number_headlines.specs.FlagRows.{FlagKept};
 ghost use Rattle.number_headlines.specs.GatheredRows.{GatheredKept};
@@ -234,6 +235,14 @@ pub fn quest_kept()
 /// A worked row with functions of fewer bits: what one returns in a loop comes to have too many, which is raised.
 pub fn far_kept()
     ensures { FarKept }
+{
+    number_headlines_kept();
+}
+
+/// A worked row with jumps out of begin blocks: a procedure that calls itself from one, until that leaves all of them
+/// for a label of the main procedure.
+pub fn escape_kept()
+    ensures { EscapeKept }
 {
     number_headlines_kept();
 }

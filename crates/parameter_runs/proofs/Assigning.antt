@@ -128,9 +128,11 @@ put_reaches :
     (k' : Setting) {x : Spot} (is : IsParameterAround k'.block x) {numbers : ℕ → ℕ} {p : Point} {index : ℕ} →
     HasRegisters k' 0 1 → IsAmong k'.block numbers p → (c : ℕ) (f : Family) (z : ℤ)
     (wide : is_of_precision 31 z ≡ true) (n : CopyAt k'.block x is p) →
-    Linked k'.block.call.surroundings.links k'.block.call.code index (put_code k'.words (x.level == k'.block.environment.level) x.level is.entry.place) →
+    Linked k'.block.call.surroundings.links k'.block.call.code index (put_code k'.words (x.level ==
+    k'.block.environment.level) x.level is.entry.place) →
     ((b : Base) → IsIn k'.block.call.surroundings p numbers index b (f b) × (value (f b).machine a0 ≡ word z)) →
-    Reach k'.block.call.code c f (services_of p) (c + size_of (put_code k'.words (x.level == k'.block.environment.level) x.level is.entry.place))
+    Reach k'.block.call.code c f (services_of p) (c + size_of (put_code k'.words (x.level ==
+    k'.block.environment.level) x.level is.entry.place))
     (services_of (behind_assigned p (assigning n z wide)))
     (λ b y. IsIn k'.block.call.surroundings (behind_assigned p (assigning n z wide)) (held_after numbers 0 (word z))
     (index + size_of (put_code k'.words (x.level == k'.block.environment.level) x.level is.entry.place)) b y)
@@ -161,11 +163,14 @@ put_reaches k' {x} is {numbers} {p} {index} registers o c f z wide n l there =
     (front_of back value_stored l2) (reached_holds r2) in
     let r4 = value_goes o' n h (c + size_of saves + size_of finds + size_of back) (reached r3) z wide even
     (back_of back value_stored l2) (reached_holds r3) in
-    let all = reach_moved {c'' = c + size_of (put_code k'.words (x.level == k'.block.environment.level) x.level is.entry.place)}
+    let all = reach_moved {c'' = c + size_of (put_code k'.words (x.level == k'.block.environment.level) x.level
+    is.entry.place)}
     {i'' = index + size_of (put_code k'.words (x.level == k'.block.environment.level) x.level is.entry.place)}
     (omega (arith, n1)) (omega (arith, n1)) (reach_then r1 (reach_then r2 (reach_then r3 r4))) in
-    subst (λ v. Reach k.call.code c f (services_of p) (c + size_of (put_code k'.words (x.level == k'.block.environment.level) x.level is.entry.place)) v
-    (λ b y. IsIn w q (held_after numbers 0 (word z)) (index + size_of (put_code k'.words (x.level == k'.block.environment.level) x.level is.entry.place)) b y))
+    subst (λ v. Reach k.call.code c f (services_of p) (c + size_of (put_code k'.words (x.level ==
+    k'.block.environment.level) x.level is.entry.place)) v
+    (λ b y. IsIn w q (held_after numbers 0 (word z)) (index + size_of (put_code k'.words (x.level ==
+    k'.block.environment.level) x.level is.entry.place)) b y))
     (sym (services_same p a))
     (reach_map _ all (λ b y s.
     in_known {t = λ j. 0} {rs = nothing} h o.image.parts
@@ -200,9 +205,11 @@ stored_goes :
     (words : ℕ) (k : Block) (labels : List Label) (x : Spot) (source : Y.Number) (line index left' need most : ℕ)
     (h : IsAssignmentAround words k x source line index need most) (acts wanted debt i : ℕ) (c' : ℕ) (f' : Family)
     (v' : Services) (z : ℤ) (s : State) (y : Stretch) → acts ≤ y.acts → is_of_precision 31 z ≡ true →
-    HasWord k y (word z) c' f' v' s → y.wanted + size_of (put_code words (x.level == k.environment.level) x.level h.number.entry.place) ≤ wanted + debt →
+    HasWord k y (word z) c' f' v' s → y.wanted + size_of (put_code words (x.level == k.environment.level) x.level
+    h.number.entry.place) ≤ wanted + debt →
     y.index + size_of (put_code words (x.level == k.environment.level) x.level h.number.entry.place) ≡ i →
-    Linked k.call.surroundings.links k.call.code y.index (put_code words (x.level == k.environment.level) x.level h.number.entry.place) →
+    Linked k.call.surroundings.links k.call.code y.index (put_code words (x.level == k.environment.level) x.level
+    h.number.entry.place) →
     Comes k.call.code c' f' v' (owing k.call.code debt (statement_aims k labels acts i wanted left'))
     (put_in k x line (BasicNumber z) k.call.surroundings.acts s)
 stored_goes words k labels x source line index left' need most h acts wanted debt i c' f' v' z s y since wide q paid
@@ -287,7 +294,13 @@ around_assigned words k labels x source line index left' need most h ev p number
     (sym (fit_is around' z w.acts s q.0))
     (record {
       to = λ early. stored_goes words k labels x source line index left' need most h acts wanted debt
-          (index + size_with words k stmt) c' f' v' z s y (omega arith) q.0 q.1 (omega (arith, n2, n3)) (omega (arith, n0, n1, n2, n3))
+          (index + size_with words k stmt) c' f' v' z s y (omega arith) q.0 q.1 (omega (arith, n2, n3)) (omega (
+            arith,
+            n0,
+            n1,
+            n2,
+            n3,
+          ))
           (linked_at (index + size_of one + size_of value') puts (omega (arith, n2)) ls);
     }))
     (λ c' f' v' height label s q.

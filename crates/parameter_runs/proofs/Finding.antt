@@ -58,7 +58,8 @@ plus_comes :
     {w : Surroundings} {code : List Instr} {p : Point} {numbers : ℕ → ℕ} {i : ℕ} (base place c : ℕ) (f : Family)
     (h : IsFrame (frame_under w.parts p.control.layers)) → base + place < 2 ^ 24 →
     Linked w.links code i (plus a0 a0 (pos place)) →
-    ((b : Base) → At b i (Known (point_ground w p h) (services_of p) numbers (λ n. 0) (λ b'. (10, base) ∷ []) b) (f b)) →
+    ((b : Base) → At b i (Known (point_ground w p h) (services_of p) numbers (λ n. 0) (λ b'. (10, base) ∷ []) b) (f b))
+    →
     Reach code c f (services_of p) (c + size_of (plus a0 a0 (pos place))) (services_of p)
     (λ b y. At b (i + size_of (plus a0 a0 (pos place))) (Known (point_ground w p h) (services_of p) numbers (λ n. 0)
     (λ b'. (10, base + place) ∷ []) b) y)
@@ -81,7 +82,8 @@ plus_comes {w} {p = p} {numbers = numbers} base place c f h few l there =
 
 pub list_comes :
     (q : Bool) {w : Surroundings} {code : List Instr} {p : Point} {numbers : ℕ → ℕ} {i level base : ℕ} {r : Entry}
-    (h : IsFrame (frame_under w.parts p.control.layers)) (s : IsFound w p h q level base r) (c : ℕ) (f : Family) → Linked w.links code i (list_by q level r.place) →
+    (h : IsFrame (frame_under w.parts p.control.layers)) (s : IsFound w p h q level base r) (c : ℕ) (f : Family) →
+    Linked w.links code i (list_by q level r.place) →
     ((b : Base) → At b i (Known (point_ground w p h) (services_of p) numbers (λ n. 0) nothing b) (f b)) →
     Reach code c f (services_of p) (c + size_of (list_by q level r.place)) (services_of p)
     (λ b y. At b (i + size_of (list_by q level r.place)) (Known (point_ground w p h) (services_of p) numbers
@@ -138,7 +140,8 @@ pub record Takes (r : Register) (rs : Base → List (ℕ × ℕ)) : Type 0 where
 pub sign_comes :
     (q : Bool) (u : Register) {rs : Base → List (ℕ × ℕ)} {w : Surroundings} {code : List Instr} {p : Point}
     {numbers : ℕ → ℕ} {i level base : ℕ} {r : Entry} (h : IsFrame (frame_under w.parts p.control.layers))
-    (s : IsFound w p h q level base r) (t : Takes u rs) (c : ℕ) (f : Family) → Linked w.links code i (sign_by q u level r.place) →
+    (s : IsFound w p h q level base r) (t : Takes u rs) (c : ℕ) (f : Family) → Linked w.links code i (sign_by q u level
+    r.place) →
     ((b : Base) → At b i (Known (point_ground w p h) (services_of p) numbers (λ n. 0) rs b) (f b)) →
     Reach code c f (services_of p) (c + size_of (sign_by q u level r.place)) (services_of p)
     (λ b y. At b (i + size_of (sign_by q u level r.place)) (Known (point_ground w p h) (services_of p) numbers

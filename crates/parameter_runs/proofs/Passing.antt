@@ -193,7 +193,8 @@ around_passed k x φ φs begun newest is =
           let o' = told_again k told newest o in
           let here = o.later.layers in
           let eq = passed_coded e taken all place count n x place' is.declared is.numbered_so in
-          let whole = passing_code (list_by q x.level place') (sign_by q a1 x.level place') (sign_by q u1 x.level place')
+          let whole = passing_code (list_by q x.level place') (sign_by q a1 x.level place') (sign_by q u1 x.level
+          place')
           place count n in
           let l' = subst (Linked w.links code index) eq l in
           let s = found_told k {x = x} {numbers = numbers} told newest is o in

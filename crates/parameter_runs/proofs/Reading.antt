@@ -98,7 +98,8 @@ pub record CopyAt (k : Block) (x : Spot) (is : IsParameterAround k x) (p : Point
       (load 4 m (k.first.places.at is.entry.serial) ≡ word z) × (k.first.places.at is.entry.serial % 4 ≡ 0)
 
 pub copy_at :
-    {k : Block} {numbers : ℕ → ℕ} {p : Point} {index : ℕ} (x : Spot) (is : IsParameterAround k x) → IsAmong k numbers p →
+    {k : Block} {numbers : ℕ → ℕ} {p : Point} {index : ℕ} (x : Spot) (is : IsParameterAround k x) → IsAmong k numbers p
+    →
     (f : Family) → AreIn k.call.surroundings p numbers index f → CopyAt k x is p
 copy_at {k} {p = p} x is o f there =
     record {
@@ -151,7 +152,8 @@ copy_at {k} {p = p} x is o f there =
     there_is = ap generation_of on.lives ∙ ap (λ y. Some y) same
 
     told : (m : List ℕ) → H.Holds (now p m) →
-        Tells (Fixed 31) (g.values 0 []) (p.places.at is.entry.serial + 0 + 0) m × ((p.places.at is.entry.serial + 0 + 0) % 4 ≡ 0)
+        Tells (Fixed 31) (g.values 0 []) (p.places.at is.entry.serial + 0 + 0) m × ((p.places.at is.entry.serial + 0 +
+        0) % 4 ≡ 0)
     told m stored =
         element_held (now p m) stored (VariableName is.entry.serial)
         (record { shape = parameter_shape; extent = pos 0; values = g.values }) (pos 0) 0 [] there_is refl
@@ -464,8 +466,10 @@ read_comes :
     (n : CopyAt k x is p) (h : frame_of k p) (c : ℕ) (f : Family) →
     Linked k.call.surroundings.links k.call.code i (read_code (x.level == k.environment.level) x.level is.entry.place) →
     AreIn k.call.surroundings p numbers i f →
-    Reach k.call.code c f (services_of p) (c + size_of (read_code (x.level == k.environment.level) x.level is.entry.place)) (services_of p)
-    (λ b y. At b (i + size_of (read_code (x.level == k.environment.level) x.level is.entry.place)) (Known (point_ground k.call.surroundings p h)
+    Reach k.call.code c f (services_of p) (c + size_of (read_code (x.level == k.environment.level) x.level
+    is.entry.place)) (services_of p)
+    (λ b y. At b (i + size_of (read_code (x.level == k.environment.level) x.level is.entry.place)) (Known (point_ground
+    k.call.surroundings p h)
     (services_of p) numbers (λ j. 0) (valued (word n.z)) b) y)
 read_comes {k} {x} is o n h c f l there =
     let finds = found_code (x.level == k.environment.level) x.level is.entry.place in
