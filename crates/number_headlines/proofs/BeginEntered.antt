@@ -141,7 +141,8 @@ number_in :
     {p : Point} {numbers : ℕ → ℕ} {z : Stands m input acts valued more b a} (o : At z p numbers) (x : Spot) →
     is_known (scope_of program m.called z.head z.body) x ≡ true →
     IsNumber (block_of_run program input acts valued more (run_begun z p numbers)) x
-number_in {program} {m} {input} {acts} {valued = valued} {more = more} {a = a} {p = p} {numbers = numbers} {z = z} o x h =
+number_in {program} {m} {input} {acts} {valued = valued} {more = more} {a = a} {p = p} {numbers = numbers} {z = z} o x
+    h =
     by (stands_in z x parts.0)
   where
     plain : Bool
@@ -172,7 +173,8 @@ array_in :
     is_array_known (scope_of program m.called z.head z.body) x ≡ true →
     IsArray (block_of_run program input acts valued more (run_begun z p numbers)) x
     (bounds_if (declared_variable program (variable_of x)))
-array_in {program} {m} {input} {acts} {valued = valued} {more = more} {a = a} {p = p} {numbers = numbers} {z = z} o x h =
+array_in {program} {m} {input} {acts} {valued = valued} {more = more} {a = a} {p = p} {numbers = numbers} {z = z} o x h
+    =
     by (stands_in z x parts.0)
   where
     array : Bool
@@ -205,7 +207,8 @@ narrow_in :
     is_narrow_known (scope_of program m.called z.head z.body) x ≡ true →
     IsScalar (block_of_run program input acts valued more (run_begun z p numbers)) x
     (type_if (declared_variable program (variable_of x)))
-narrow_in {program} {m} {input} {acts} {valued = valued} {more = more} {a = a} {p = p} {numbers = numbers} {z = z} o x h =
+narrow_in {program} {m} {input} {acts} {valued = valued} {more = more} {a = a} {p = p} {numbers = numbers} {z = z} o x
+    h =
     by (stands_in z x parts.0)
   where
     narrow : Bool
@@ -240,7 +243,8 @@ own_named_in :
     declared_variable program (variable_of x) ≡ Some d →
     (is : IsNumber (block_of_run program input acts valued more (run_begun z p numbers)) x) → is.serial < 2 ^ 64 →
     IsTelling (block_of_run program input acts valued more (run_begun z p numbers)) x
-own_named_in {program} {m} {input} {acts} {valued = valued} {more = more} {a = a} {p = p} {numbers = numbers} {z = z} o x d own there is
+own_named_in {program} {m} {input} {acts} {valued = valued} {more = more} {a = a} {p = p} {numbers = numbers} {z = z} o
+    x d own there is
     few =
     let w = surroundings_for program input acts in
     let e = begin_environment_for program a z.head in
@@ -252,7 +256,8 @@ own_named_in {program} {m} {input} {acts} {valued = valued} {more = more} {a = a
     let c = M.activation_of y.head y.entry (length p.state.activations + 1) in
     let all = all_in z p numbers o.among o.pass in
     let at = own_in z x d own there in
-    told_own (block_of_run program input acts valued more (run_begun z p numbers)) x is (all_made image_parts φ xs start)
+    told_own (block_of_run program input acts valued more (run_begun z p numbers)) x is (all_made image_parts φ xs
+    start)
     (layer_after image_parts (start.state.serials + 1) φ xs) p.control.layers c p.state.activations _
     (tells_each w (linked_code (code_for program)) e start φ p.control.layers c p.state.activations _ xs 0 all.listed
     all.declared (record { bindings = []; active = refl }) at.1)
@@ -264,7 +269,8 @@ outer_named_in :
     x.level ≤ a.head.level → IsTelling (around_it z) x →
     IsTelling (block_of_run program input acts valued more (run_begun z p numbers)) x
 unfolding inner_over
-outer_named_in {program} {m} {input} {acts} {valued = valued} {more = more} {a = a} {p = p} {numbers = numbers} {z = z} o x low is =
+outer_named_in {program} {m} {input} {acts} {valued = valued} {more = more} {a = a} {p = p} {numbers = numbers} {z = z}
+    o x low is =
     over_telling {k = around_it z} {inner = block_of_run program input acts valued more (run_begun z p numbers)}
     {numbers = numbers} x
     (inner_over (around_it z) z.labels (begin_in z) z.index more (is_begin z o.shallow) z.running.nested p numbers
@@ -277,7 +283,8 @@ named_in :
     is_known (scope_of program m.called z.head z.body) x ≡ true →
     (block_of_run program input acts valued more (run_begun z p numbers)).first.state.serials < 2 ^ 64 →
     IsTelling (block_of_run program input acts valued more (run_begun z p numbers)) x
-named_in {program} {m} {input} {acts} {valued = valued} {more = more} {a = a} {p = p} {numbers = numbers} {z = z} o x h small =
+named_in {program} {m} {input} {acts} {valued = valued} {more = more} {a = a} {p = p} {numbers = numbers} {z = z} o x h
+    small =
     by (stands_in z x parts.0)
   where
     plain : Bool
@@ -401,7 +408,8 @@ pub begun_entered :
     {p : Point} {numbers : ℕ → ℕ} (z : Stands m input acts valued more b a) (o : At z p numbers) →
     (around_it z).first.state.world.acts < p.state.world.acts →
     IsEntered m input acts valued more (run_begun z p numbers) b
-begun_entered {program} {m} {input} {acts} {valued = valued} {more = more} {b = b} {a = a} {p = p} {numbers = numbers} z o
+begun_entered {program} {m} {input} {acts} {valued = valued} {more = more} {b = b} {a = a} {p = p} {numbers = numbers}
+    z o
     since =
     let h = z.running in
     let w = surroundings_for program input acts in

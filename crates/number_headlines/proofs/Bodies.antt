@@ -361,7 +361,8 @@ frame_left :
     (lands : HasLandings m a) (calls : EachCall m input acts valued more a blocks)
     (given : EachGiven m input acts valued more a e.running.free.layer e.running.free.below)
     (begins : EachBegin m input acts valued more a blocks) →
-    Left.HasFrame (ready once m input acts valued more a blocks few e lands calls given begins) 0 (statements_set a.body)
+    Left.HasFrame (ready once m input acts valued more a blocks few e lands calls given begins) 0 (statements_set
+    a.body)
 unfolding ready
 frame_left once m input acts valued more a blocks few e lands calls given begins may =
     let words = e.words in
@@ -378,7 +379,8 @@ body_each once {program} m input acts valued more a blocks few e lands calls giv
     let h = e.running in
     let s = scope_of program m.called a.head a.body in
     body_does s valued (block_of_run program input acts valued more a) a.body a.index
-    (most_for program) left_over (ready once m input acts valued more a blocks few e lands calls given begins) h.statements
+    (most_for program) left_over (ready once m input acts valued more a blocks few e lands calls given begins)
+    h.statements
     h.held.own h.held.begins
     (frame_left once m input acts valued more a blocks few e lands calls given begins) h.placed
 

@@ -58,7 +58,8 @@ in_now = inside (now_entry ∷ main_entry ∷ []) (Returns (Some (Y.FixedLeaf 10
 
 -- ---- what is named
 
-abbrev far_is : (around : List Around) (r : Returning) → IsAround 1 0 around → Designates (inside around r) (whole far_spot)
+abbrev far_is : (around : List Around) (r : Returning) → IsAround 1 0 around → Designates (inside around r) (whole
+    far_spot)
 far_is around r here = record {
   d = number_declared [];
   declared = record { found = refl; same_class = refl; block_around = here };

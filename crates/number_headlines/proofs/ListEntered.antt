@@ -469,7 +469,8 @@ given_parameters :
     {ns : List ℕ} {v : Bool} {level number : ℕ} (o : Given m input acts valued more b a ns v level number) (x : Spot) →
     is_received (scope_of program m.called o.inner.head o.inner.body) x ≡ true →
     IsParameterAround (block_of_run program input acts v more (run_given o)) x
-given_parameters {program} m {input} {acts} {more = more} {a = a} {ns = ns} {v = v} {level = level} {number = number} o x h =
+given_parameters {program} m {input} {acts} {more = more} {a = a} {ns = ns} {v = v} {level = level} {number = number} o
+    x h =
     by (stands_at i x (received_parts program m.called i.head i.body x h).0).at
   where
     i : Inner m a.head ns v level number
@@ -495,7 +496,8 @@ given_parameters {program} m {input} {acts} {more = more} {a = a} {ns = ns} {v =
           };
           there = place_found (environment_for program i.head) x.index ns
               (subst (λ is. list_any (λ n. n == x.index) is ≡ true)
-              (ap (λ n. parameters_of_block program n) own.0 ∙ ap parameters_in i.is) (received_parts program m.called i.head i.body x h).1);
+              (ap (λ n. parameters_of_block program n) own.0 ∙ ap parameters_in i.is) (received_parts program m.called
+              i.head i.body x h).1);
           declared = parameter_found (declared_variable program (parameter_of x))
               (received_parts program m.called i.head i.body x h).2;
           numbered = ap (λ n. place_among x.index (parameters_of_block program n)) own.0
@@ -554,10 +556,16 @@ given_entered once {program} m {input} {acts} {valued} {more} {b} {a} {ns} {v} o
           function = refl;
           kind = ap (λ (ψ : Layer). is_begin ψ.kind) same';
           saved = let saved = ap (λ (ψ : Layer). ψ.saved) same' in omega (arith, saved);
-          ends = taking_ends once program i.head i.body xs v (precision_of i) m.loadable received (omega (arith, inside));
+          ends = taking_ends once program i.head i.body xs v (precision_of i) m.loadable received (omega (
+            arith,
+            inside,
+          ));
           owner = refl;
         });
-        placed = taking_body_placed once program i.head i.body xs v (precision_of i) m.loadable received (omega (arith, inside));
+        placed = taking_body_placed once program i.head i.body xs v (precision_of i) m.loadable received (omega (
+          arith,
+          inside,
+        ));
         statements = i.statements;
         fits = i.fits;
         waiting = i.waiting;

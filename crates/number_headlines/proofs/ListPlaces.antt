@@ -195,7 +195,8 @@ ended_by false precision program head body xs h is inner = refl
 ended_by true precision program head body xs h is inner = function_ended program head body precision h is inner
 
 entry_placed :
-    MarkedOnce → (program : Y.Program) (head : Y.BlockHead) (body : Y.Stmts) (xs : List Parameter) (valued : Bool) (precision : ℕ) →
+    MarkedOnce → (program : Y.Program) (head : Y.BlockHead) (body : Y.Stmts) (xs : List Parameter) (valued : Bool)
+    (precision : ℕ) →
     IsLoadable program → IsReceiving program head body (indices_of xs) (result_by valued precision) → 1 ≤ head.level →
     Placed (links_for program) (linked_code (code_for program)) (entry_for program head.number)
     (Mark (ProcedureEntry head.number)
@@ -205,11 +206,13 @@ entry_placed once program head body xs valued precision h is inner =
     let x = procedure_for program head body in
     placed_as (Mark (ProcedureEntry head.number) ∷ taking_code c (tail_by valued x))
     (entry_coded program head body xs (result_by valued precision)
-    ∙ ap (λ u. Mark (ProcedureEntry head.number) ∷ taking_code c u) (ended_by valued precision program head body xs h is inner))
+    ∙ ap (λ u. Mark (ProcedureEntry head.number) ∷ taking_code c u) (ended_by valued precision program head body xs h
+    is inner))
     (receiving_placed once program head body (indices_of xs) (result_by valued precision) h is)
 
 taking_placed :
-    MarkedOnce → (program : Y.Program) (head : Y.BlockHead) (body : Y.Stmts) (xs : List Parameter) (valued : Bool) (precision : ℕ) →
+    MarkedOnce → (program : Y.Program) (head : Y.BlockHead) (body : Y.Stmts) (xs : List Parameter) (valued : Bool)
+    (precision : ℕ) →
     IsLoadable program → IsReceiving program head body (indices_of xs) (result_by valued precision) → 1 ≤ head.level →
     Placed (links_for program) (linked_code (code_for program)) (entry_for program head.number)
     (taking_code (bare_taking program head body xs) (tail_by valued (procedure_for program head body)))
@@ -231,7 +234,8 @@ taking_end true program head body xs =
     + size_of (no_value head.line)
 
 rest_placed :
-    MarkedOnce → (program : Y.Program) (head : Y.BlockHead) (body : Y.Stmts) (xs : List Parameter) (valued : Bool) (precision : ℕ) →
+    MarkedOnce → (program : Y.Program) (head : Y.BlockHead) (body : Y.Stmts) (xs : List Parameter) (valued : Bool)
+    (precision : ℕ) →
     IsLoadable program → IsReceiving program head body (indices_of xs) (result_by valued precision) → 1 ≤ head.level →
     Placed (links_for program) (linked_code (code_for program)) (taking_index program head body xs)
     (stmts_code (environment_for program head) none_taken body ++ tail_by valued (procedure_for program head body))
@@ -248,16 +252,19 @@ rest_placed once program head body xs valued precision h is inner =
     (taking_placed once program head body xs valued precision h is inner))))
 
 pub taking_body_placed :
-    MarkedOnce → (program : Y.Program) (head : Y.BlockHead) (body : Y.Stmts) (xs : List Parameter) (valued : Bool) (precision : ℕ) →
+    MarkedOnce → (program : Y.Program) (head : Y.BlockHead) (body : Y.Stmts) (xs : List Parameter) (valued : Bool)
+    (precision : ℕ) →
     IsLoadable program → IsReceiving program head body (indices_of xs) (result_by valued precision) → 1 ≤ head.level →
     Placed (links_for program) (linked_code (code_for program)) (taking_index program head body xs)
     (stmts_code (environment_for program head) none_taken body)
 taking_body_placed once program head body xs valued precision h is inner =
     placed_front (stmts_code (environment_for program head) none_taken body)
-    (tail_by valued (procedure_for program head body)) (rest_placed once program head body xs valued precision h is inner)
+    (tail_by valued (procedure_for program head body)) (rest_placed once program head body xs valued precision h is
+    inner)
 
 pub taking_ends :
-    MarkedOnce → (program : Y.Program) (head : Y.BlockHead) (body : Y.Stmts) (xs : List Parameter) (valued : Bool) (precision : ℕ) →
+    MarkedOnce → (program : Y.Program) (head : Y.BlockHead) (body : Y.Stmts) (xs : List Parameter) (valued : Bool)
+    (precision : ℕ) →
     IsLoadable program → IsReceiving program head body (indices_of xs) (result_by valued precision) → 1 ≤ head.level →
     IsEnd (links_for program) head.number (taking_end valued program head body xs)
 taking_ends once program head body xs false precision h is inner =
@@ -358,7 +365,8 @@ procedure_taking once program head body ns input acts parent call around h is in
     }
 
 pub function_taking :
-    MarkedOnce → (program : Y.Program) (head : Y.BlockHead) (body : Y.Stmts) (precision : ℕ) (ns : List ℕ) (input : List ℕ) (acts : ℕ)
+    MarkedOnce → (program : Y.Program) (head : Y.BlockHead) (body : Y.Stmts) (precision : ℕ) (ns : List ℕ) (input :
+    List ℕ) (acts : ℕ)
     (parent call : ℕ) (around : Around) → IsLoadable program →
     IsReceiving program head body (indices_of (parameters_at (environment_for program head) ns))
     (Some (Y.FixedLeaf precision)) → 1 ≤ head.level → IsOwnList ns (variables_of_block program head.number) →

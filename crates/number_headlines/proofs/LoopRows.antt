@@ -97,7 +97,10 @@ added_number = record { precision = 31; scalar = added_scalar }
 
 three_format : IsFormatList Putting three_wide
 unfolding formats_move_data format_moves_data
-three_format = record { formats_are = ((omega arith, omega arith), ((omega arith, omega arith), tt)); moves_data = refl }
+three_format = record {
+  formats_are = ((omega arith, omega arith), ((omega arith, omega arith), tt));
+  moves_data = refl;
+}
 
 loops_sound : SoundProcedure table loops_program loops_main
 loops_sound = record {
@@ -109,7 +112,176 @@ loops_sound = record {
   outer = [];
   held = refl;
   listed = refl;
-  statements = ((record { type = Y.FixedLeaf 31; scalar = total_scalar; fits = refl }, ((total_is, (tt, (tt, tt))), (((omega arith, omega arith), omega arith), omega arith))), ((((added_scalar, (added_is, (tt, (tt, tt)))), (((omega arith, omega arith), omega arith), (omega arith, omega arith))), (((total_number, (total_is, (tt, (tt, tt)))), omega arith), (((record { type = Y.FixedLeaf 31; scalar = total_scalar; fits = refl }, ((total_is, (tt, (tt, tt))), (((omega arith, omega arith), ((total_number, (total_is, (tt, (tt, tt)))), (added_number, (added_is, (tt, (tt, tt)))))), omega arith))), tt), omega arith))), (((record { type = Y.FixedLeaf 31; scalar = total_scalar; fits = refl }, ((total_is, (tt, (tt, tt))), ((omega arith, omega arith), ((total_number, (total_is, (tt, (tt, tt)))), (total_number, (total_is, (tt, (tt, tt)))))))), (((total_number, (total_is, (tt, (tt, tt)))), omega arith), (((tt, (((three_format, (((omega arith, omega arith), (total_number, (total_is, (tt, (tt, tt))))), (((omega arith, omega arith), (added_number, (added_is, (tt, (tt, tt))))), tt))), tt), omega arith)), tt), omega arith))), (((record { type = Y.FixedLeaf 31; scalar = added_scalar; fits = refl }, ((added_is, (tt, (tt, tt))), ((omega arith, omega arith), omega arith))), (tt, (((record { type = Y.FixedLeaf 31; scalar = total_scalar; fits = refl }, ((total_is, (tt, (tt, tt))), (((omega arith, omega arith), (added_number, (added_is, (tt, (tt, tt))))), omega arith))), tt), omega arith))), tt))));
+  statements = (
+    (
+      record { type = Y.FixedLeaf 31; scalar = total_scalar; fits = refl },
+      (
+        (total_is, (tt, (tt, tt))),
+        (((omega arith, omega arith), omega arith), omega arith),
+      ),
+    ),
+    (
+      (
+        (
+          (added_scalar, (added_is, (tt, (tt, tt)))),
+          (
+            (
+              (
+                omega
+                    arith,
+                omega arith,
+              ),
+              omega arith,
+            ),
+            (omega arith, omega arith),
+          ),
+        ),
+        (
+          (
+            (total_number, (total_is, (tt, (tt, tt)))),
+            omega
+                arith,
+          ),
+          (
+            (
+              (
+                record { type = Y.FixedLeaf 31; scalar = total_scalar; fits = refl },
+                (
+                  (total_is, (tt, (tt, tt))),
+                  (
+                    (
+                      (omega arith, omega arith),
+                      (
+                        (total_number, (total_is, (tt, (tt, tt)))),
+                        (
+                          added_number,
+                          (
+                            added_is,
+                            (
+                              tt,
+                              (
+                                tt,
+                                tt,
+                              ),
+                            ),
+                          ),
+                        ),
+                      ),
+                    ),
+                    omega arith,
+                  ),
+                ),
+              ),
+              tt,
+            ),
+            omega arith,
+          ),
+        ),
+      ),
+      (
+        (
+          (
+            record {
+              type = Y.FixedLeaf 31;
+              scalar = total_scalar;
+              fits = refl;
+            },
+            (
+              (total_is, (tt, (tt, tt))),
+              (
+                (omega arith, omega arith),
+                (
+                  (total_number, (total_is, (tt, (tt, tt)))),
+                  (total_number, (total_is, (tt, (tt, tt)))),
+                ),
+              ),
+            ),
+          ),
+          (
+            ((total_number, (total_is, (tt, (tt, tt)))), omega arith),
+            (
+              (
+                (
+                  tt,
+                  (
+                    (
+                      (
+                        three_format,
+                        (
+                          ((omega arith, omega arith), (total_number, (total_is, (tt, (tt, tt))))),
+                          (
+                            (
+                              (
+                                omega arith,
+                                omega
+                                    arith,
+                              ),
+                              (added_number, (added_is, (tt, (tt, tt)))),
+                            ),
+                            tt,
+                          ),
+                        ),
+                      ),
+                      tt,
+                    ),
+                    omega arith,
+                  ),
+                ),
+                tt,
+              ),
+              omega arith,
+            ),
+          ),
+        ),
+        (
+          (
+            (
+              record {
+                type
+                    = Y.FixedLeaf 31;
+                scalar = added_scalar;
+                fits = refl;
+              },
+              (
+                (added_is, (tt, (tt, tt))),
+                (
+                  (omega arith, omega arith),
+                  omega arith,
+                ),
+              ),
+            ),
+            (
+              tt,
+              (
+                (
+                  (
+                    record { type = Y.FixedLeaf 31; scalar = total_scalar; fits = refl },
+                    (
+                      (
+                        total_is,
+                        (
+                          tt,
+                          (
+                            tt,
+                            tt,
+                          ),
+                        ),
+                      ),
+                      (((omega arith, omega arith), (added_number, (added_is, (tt, (tt, tt))))), omega arith),
+                    ),
+                  ),
+                  tt,
+                ),
+                omega
+                    arith,
+              ),
+            ),
+          ),
+          tt,
+        ),
+      ),
+    ),
+  );
   labels = (tt, (tt, ((tt, tt), ((tt, tt), ((tt, tt), tt)))));
   parameters = tt;
   apart = tt;

@@ -85,8 +85,10 @@ with_entries texts k = record k { first = with_texts (texts k.first.control.entr
 
 -- ---- as it is called
 
--- how it came to run: the index of its entry, what it returns behind a call, its first point behind its act of entry, of
--- which a begin block has none, where a RETURN in it goes, the registers that its code may write, and the blocks further
+-- how it came to run: the index of its entry, what it returns behind a call, its first point behind its act of entry,
+-- of
+-- which a begin block has none, where a RETURN in it goes, the registers that its code may write, and the blocks
+-- further
 -- out to which it may go on
 pub record Form : Type 0 where
   pub entry : ℕ

@@ -86,7 +86,8 @@ numbers_are : (fs : T.Formats) → is_list fs ≡ true → not (has_text fs) ≡
 numbers_are fs list none =
     let text = not_is (has_text fs) none in
     record {
-      fixed = fixed_by (has_fixed fs) (has_text fs) (and_parts (are_formats fs) (has_fixed fs || has_text fs) list).1 text;
+      fixed = fixed_by (has_fixed fs) (has_text fs) (and_parts (are_formats fs) (has_fixed fs || has_text fs) list).1
+          text;
       text = text;
       some = (list_is fs list).some;
     }

@@ -14,6 +14,7 @@ pub mod Members
 pub mod Unset
 pub mod Taking
 pub mod Fewer
+pub mod NamesTaken
 pub mod Takes
 pub mod BlocksTaken
 pub mod BeginsSaved

@@ -65,4 +65,5 @@ each_returned h labels type (Y.StoredText x) line index includes is own may valu
 each_returned h labels type (Y.StoredBit x) line index includes is own may valued (inr one) fits sets = absurd (cc one)
 each_returned h labels type (Y.StoredPointer x) line index includes is own may valued (inr one) fits sets =
     absurd (cc one)
-each_returned h labels type (Y.StoredOffset x) line index includes is own may valued (inr one) fits sets = absurd (cc one)
+each_returned h labels type (Y.StoredOffset x) line index includes is own may valued (inr one) fits sets = absurd (cc
+    one)

@@ -427,8 +427,10 @@ once_does h labels x (Some b) index placed line is fits sets does each at =
     })
     (has_test h (once_of (Some b) x) b x.line index line fits at.linked)
     (does (started_linked h x (Some b) index at))
-    (test_does h.scope (setting_around h.words h.block labels x.line h.most) b (knows h labels x.line placed.includes) is
-    (lists_at h labels x.line placed.includes (test_sets b) (test_sets b) (omega arith) (sets (test_sets b) (omega arith))))
+    (test_does h.scope (setting_around h.words h.block labels x.line h.most) b (knows h labels x.line placed.includes)
+    is
+    (lists_at h labels x.line placed.includes (test_sets b) (test_sets b) (omega arith) (sets (test_sets b) (omega
+    arith))))
     (each i (placed_in h.words h.block h.own x.body i labels stands placed) stands)
 
 -- ---- RETURN

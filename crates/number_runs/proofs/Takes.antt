@@ -1,7 +1,7 @@
 -- What the temporaries of the class take: as many registers as its expressions need, and the words of the frame that
 -- loops and lists of arguments set aside.
-use Rattle.std.proofs.Common.{◌≡◌, ◌⊎◌, inl, inr, ℕ, suc, ◌+◌, ◌≤◌, List, [], ◌∷◌, ◌++◌, true, refl, sym}
-use Rattle.std.proofs.Common.{ap, subst, arith, None, Option, Some}
+use Rattle.std.proofs.Common.{◌≡◌, ◌⊎◌, inl, inr, ℕ, suc, ◌+◌, ◌≤◌, List, [], ◌∷◌, ◌++◌, true, refl, sym, ap, subst}
+use Rattle.std.proofs.Common.{arith, None, Option, Some}
 use Rattle.std.specs.Prelude.{◌&&◌, ◌||◌, ◌==◌, Bool, max, not}
 use Rattle.std.proofs.lemmas.Bool.{and_parts, or_cases}
 use Rattle.pli_typing.specs.TypedTree as Y
@@ -13,154 +13,44 @@ use Rattle.pli_coding.specs.Environments.{Taken, most_taken, with_number, with_w
 use Rattle.pli_coding.specs.Registers.{held_registers}
 use Rattle.pli_coding.specs.Statements.{bit_if_takes, stmt_takes, stmts_take}
 use Rattle.pli_coding.specs.Storing.{assigned_takes}
-use Rattle.pli_coding.specs.Streams.{put_item_takes, put_items_take, put_takes}
+use Rattle.pli_coding.specs.Streams.{put_item_takes, put_items_take, put_takes, get_items_take, get_takes, has_text}
 use Rattle.pli_coding.specs.Temporaries.{argument_takes, arguments_take, bit_takes, call_takes, number_takes}
 use Rattle.pli_coding.specs.Temporaries.{numbers_take, reference_takes, stored_takes, subscripts_take, text_takes}
 use Rattle.program_runs.specs.Statements.{set_aside}
 use Rattle.expression_runs.specs.Variables.{Spot, whole}
 use Rattle.argument_runs.specs.Parameters.{parameter}
 use Rattle.counter_runs.specs.Counts.{count_of}
-use Rattle.number_runs.specs.Counting.{condition_needs, condition_sets, count_needs, count_sets, is_condition}
-use Rattle.number_runs.specs.Counting.{is_count, limit_needs}
-use Rattle.number_runs.specs.Counting.{limit_sets, start_needs, start_sets}
-use Rattle.number_runs.specs.Numbers.{Scope, are_arguments, are_numbers, argument_needs, argument_sets}
-use Rattle.number_runs.specs.Numbers.{arguments_need, arguments_set, call_needs, call_sets, gives_lists, is_argument}
-use Rattle.number_runs.specs.Numbers.{is_asked, is_element, is_fixed, is_given, is_number, is_reference, is_test}
-use Rattle.number_runs.specs.Numbers.{is_variable, may_calculate, number_needs, number_sets}
-use Rattle.number_runs.specs.Numbers.{numbers_need, numbers_set, reference_needs, reference_sets, test_needs, test_sets}
+use Rattle.number_runs.specs.Counting.{condition_needs, condition_sets, count_needs, count_sets, is_condition, is_count}
+use Rattle.number_runs.specs.Counting.{limit_needs, limit_sets, start_needs, start_sets}
+use Rattle.number_runs.specs.Numbers.{Scope, are_arguments, are_numbers, argument_needs, argument_sets, arguments_need}
+use Rattle.number_runs.specs.Numbers.{arguments_set, call_needs, call_sets, gives_lists, is_argument, is_element}
+use Rattle.number_runs.specs.Numbers.{is_fixed, is_given, is_number, is_reference, is_test, is_variable, may_calculate}
+use Rattle.number_runs.specs.Numbers.{number_needs, number_sets, numbers_need, numbers_set, reference_needs}
+use Rattle.number_runs.specs.Numbers.{reference_sets, test_needs, test_sets, is_narrow_with, is_precision, is_text}
+use Rattle.number_runs.specs.Numbers.{text_needs, without_given, IsBare, name_sets, without_located, is_item}
+use Rattle.number_runs.specs.Numbers.{subscripts_need}
 use Rattle.number_runs.specs.Based.{is_word_type}
 use Rattle.number_runs.specs.Narrow.{has_precision, is_bit, is_number_type, is_text_type}
-use Rattle.number_runs.specs.Numbers.{is_narrow_with, is_precision, is_text, text_needs, without_given, IsBare}
-use Rattle.number_runs.specs.Numbers.{are_compared, compared_sets, name_sets, without_located, is_item, subscripts_need}
 use Rattle.number_runs.specs.Gets.{are_get_items, are_get_pairs, is_get}
-use Rattle.pli_coding.specs.Streams.{get_items_take, get_takes, has_text}
 use Rattle.number_runs.specs.Puts.{are_pairs, are_put_items, is_put, is_put_item, is_put_list, is_skip, are_shown}
-use Rattle.number_runs.specs.Puts.{is_list}
-use Rattle.number_runs.specs.Puts.{put_item_needs, put_item_sets, put_items_need, put_items_set, put_needs, put_sets}
-use Rattle.number_runs.specs.Puts.{without_calls, without_functions}
+use Rattle.number_runs.specs.Puts.{is_list, put_item_needs, put_item_sets, put_items_need, put_items_set, put_needs}
+use Rattle.number_runs.specs.Puts.{put_sets, without_calls, without_functions}
 use Rattle.number_runs.specs.Statements.{are_statements, behind_stored, is_line, is_narrowed, is_statement, is_stored}
-use Rattle.number_runs.specs.Statements.{is_pointed, pointer_sets, statement_needs, is_fewer}
+use Rattle.number_runs.specs.Statements.{is_pointed, pointer_sets, statement_needs, is_fewer, statement_sets}
+use Rattle.number_runs.specs.Statements.{statements_need, statements_set, stored_needs, stored_sets, allocation_sets}
+use Rattle.number_runs.specs.Statements.{behind_sets, freeing_sets, is_allocation, is_freeing}
 use Rattle.number_runs.proofs.Fewer.{IsReturned, returned_is}
-use Rattle.number_runs.specs.Statements.{statement_sets, statements_need, statements_set, stored_needs, stored_sets}
-use Rattle.number_runs.specs.Statements.{allocation_sets, behind_sets, freeing_sets, is_allocation, is_freeing}
-use Rattle.number_runs.proofs.Arrays.{element_is, asked_is}
 use Rattle.number_runs.proofs.Based.{allocation_is, freeing_is, through_is}
 use Rattle.number_runs.proofs.Counters.{IsCounting, counting_is, counting_of, statement_is}
-use Rattle.number_runs.proofs.Taking.{Sets, Takes, next_number, one_more, sets_both, sets_either, sets_no_words}
-use Rattle.number_runs.proofs.Taking.{sets_none, sets_signed, takes_either, takes_next, takes_none, takes_of}
-use Rattle.number_runs.proofs.Taking.{takes_signed}
-use Rattle.number_runs.proofs.Unset.{number_unset, test_unset}
-use Rattle.number_runs.proofs.Narrow.{narrow_with_is}
-use Rattle.number_runs.proofs.Pointed.{by_pointed, compared_by}
-use Rattle.number_runs.proofs.Taking.{Fits, list_takes, scalar_takes}
-use Rattle.number_runs.proofs.Taking.{sets_two, subscript_takes}
-use Rattle.number_runs.proofs.Taking.{through_takes, unlocated_takes, whole_takes}
+use Rattle.number_runs.proofs.Taking.{Sets, Takes, one_more, sets_either, sets_no_words, sets_none, sets_signed}
+use Rattle.number_runs.proofs.Taking.{takes_either, takes_next, takes_none, takes_of, Fits, list_takes, scalar_takes}
+use Rattle.number_runs.proofs.Taking.{sets_two, through_takes}
+use Rattle.number_runs.proofs.Unset.{test_unset}
+use Rattle.number_runs.proofs.Pointed.{by_pointed}
 use Rattle.number_runs.proofs.Variables.{behind_number, sets_number}
 use Rattle.number_runs.proofs.Waiting.{bare}
-
--- where nothing is located
-subscripts_front : (n p : ℕ) (t a : Taken) → Sets n p t a → Sets n (max 0 p) t (most_taken t a)
-subscripts_front n p t a x =
-    let c = x.registers in
-    let u = x.words in
-    record { registers = omega (arith, c); words = omega (arith, u) }
-
-pub narrow_taken :
-    (s : Scope) (test : Y.LeafType → Bool) (r : Y.Reference) (t : Taken) → is_narrow_with s test r ≡ true →
-    Sets (reference_needs r) (reference_sets r) t (reference_takes t r)
-narrow_taken s test r t h =
-    let w = narrow_with_is s test r h in
-    subst (λ q. Sets (reference_needs q) (reference_sets q) t (reference_takes t q)) (sym w.is) (whole_takes t w.spot)
-
--- one whose type passes a test, or an element
-narrow_or_item :
-    (s : Scope) (test : Y.LeafType → Bool) (r : Y.Reference) (t : Taken) →
-    (is_narrow_with s test r ≡ true) ⊎ (is_item s test r ≡ true) →
-    (is_item s test r ≡ true → Sets (reference_needs r) (reference_sets r) t (reference_takes t r)) →
-    Sets (reference_needs r) (reference_sets r) t (reference_takes t r)
-narrow_or_item s test r t (inl h) item = narrow_taken s test r t h
-narrow_or_item s test r t (inr h) item = item h
-
-text_in_taken :
-    (s : Scope) (r : Y.Reference) (t : Taken) → is_narrow_with s is_text_type r ≡ true →
-    Takes 0 t (text_takes t (Y.TextIn r))
-text_in_taken s r t h =
-    let w = narrow_with_is s is_text_type r h in
-    let x = whole_takes t w.spot in
-    let c = x.registers in
-    let u = x.words in
-    subst (λ q. Takes 0 t (reference_takes t q)) (sym w.is)
-    (record { registers = omega (arith, c); words = omega (arith, u) })
-
-named_taken :
-    (s : Scope) (r : Y.Reference) (t : Taken) →
-    (is_reference s r ≡ true) ⊎ ((is_narrow_with s is_number_type r || is_item s is_number_type r) ≡ true) →
-    (is_reference s r ≡ true → Sets (reference_needs r) (reference_sets r) t (reference_takes t r)) →
-    (is_item s is_number_type r ≡ true → Sets (reference_needs r) (reference_sets r) t (reference_takes t r)) →
-    Sets (reference_needs r) (reference_sets r) t (reference_takes t r)
-named_taken s r t (inl h) one item = one h
-named_taken s r t (inr h) one item =
-    narrow_or_item s is_number_type r t
-    (or_cases (is_narrow_with s is_number_type r) (is_item s is_number_type r) h) item
-
--- of a dimension
-asked_taken :
-    (s : Scope) (r : Y.Reference) (dimension : ℕ) (t : Taken) → is_asked s r dimension ≡ true →
-    Sets 0 0 t (reference_takes t r)
-asked_taken s r dimension t h =
-    let w = asked_is s r dimension h in
-    subst (λ q. Sets 0 0 t (reference_takes t q)) (sym w.is) (whole_takes t w.spot)
-
--- an element, whose subscripts wait
-element_taken :
-    (s : Scope) (test : Y.LeafType → Bool) (v : Y.Variable) (part : Y.Part) (first : Y.Number) (rest : Y.Numbers)
-    (t : Taken) → is_element s test v part (suc (given_in rest)) ≡ true →
-    Fits t (max (number_needs first) (suc (subscripts_need rest))) →
-    Sets (number_needs first) (number_sets first) t (number_takes t first) →
-    Sets (subscripts_need rest) (numbers_set rest) (one_more t) (subscripts_take (one_more t) rest) →
-    Sets (max (number_needs first) (suc (subscripts_need rest))) (max 0 (max (number_sets first) (numbers_set rest))) t
-    (reference_takes t (Y.Referring v Y.NotLocated part (Y.NumberThen first rest)))
-element_taken s test v part first rest t h fits one more =
-    let xs = Y.NumberThen first rest in
-    let w = element_is s test v part xs h in
-    subst (λ r. Sets (subscripts_need xs) (max 0 (numbers_set xs)) t (reference_takes t r)) (sym w.is)
-    (subscripts_front (subscripts_need xs) (numbers_set xs) t (subscripts_take t xs)
-    (sets_two (number_needs first) (subscripts_need rest) (number_sets first) (numbers_set rest) t
-    (number_takes t first) (λ u. subscripts_take u rest) fits one more))
-
-given_are :
-    (s : Scope) (number level : ℕ) (xs : Y.Arguments) → is_number s (Y.NumberFrom (Y.Calling number level xs)) ≡ true →
-    are_arguments s xs ≡ true
-given_are s number level Y.NoArgument h = refl
-given_are s number level (Y.ArgumentThen first rest) h =
-    let xs = Y.ArgumentThen first rest in
-    let taken = s.is_given_function (suc (argument_count rest)) level number in
-    let a = and_parts (gives_lists s) (taken && are_arguments s xs) h in
-    (and_parts taken (are_arguments s xs) a.1).1
-
--- two names wait
-compared_taken :
-    (s : Scope) (equal : Bool) (left right : Y.Pointer) (t : Taken) → are_compared s left right ≡ true →
-    Sets 0 compared_sets t (bit_takes t (Y.PointersCompared equal left right))
-compared_taken s equal left right t h =
-    compared_by s (λ l r. Sets 0 compared_sets t (bit_takes t (Y.PointersCompared equal l r)))
-    (λ x. record { registers = omega arith; words = omega arith })
-    (λ x y. record { registers = omega arith; words = omega arith }) left right h
-
--- a number takes no words where calls have no arguments
-unset_taken :
-    (s : Scope) (x : Y.Number) (t : Taken) → IsBare s → is_number s x ≡ true →
-    Sets (number_needs x) (number_sets x) t (number_takes t x) → Takes (number_needs x) t (number_takes t x)
-unset_taken s x t none h taken =
-    takes_of (number_needs x) (number_sets x) t (number_takes t x) (number_unset s x none h) taken
-
-two_texts_taken :
-    (left right : Y.Text) (t : Taken) → Takes (text_needs left) t (text_takes t left) →
-    Takes (text_needs right) t (text_takes t right) →
-    Sets (max (text_needs left) (text_needs right)) 0 t (most_taken (text_takes t left) (text_takes t right))
-two_texts_taken left right t x y =
-    sets_no_words (max (text_needs left) (text_needs right)) t (most_taken (text_takes t left) (text_takes t right))
-    (takes_either (text_needs left) (text_needs right) t (text_takes t left) (text_takes t right) x y)
+use Rattle.number_runs.proofs.NamesTaken.{narrow_taken, narrow_or_item, text_in_taken, named_taken, asked_taken}
+use Rattle.number_runs.proofs.NamesTaken.{element_taken, given_are, compared_taken, unset_taken, two_texts_taken}
 
 mutual
   pub number_taken :
@@ -590,7 +480,8 @@ put_item_taken words s (Y.PutValue (Y.NumberValue precision x)) h fits =
     (number_taken (without_functions s) x (set_aside words) h (omega (arith, fits)))
 put_item_taken words s (Y.PutValue (Y.TextValue x)) h fits =
     sets_no_words (text_needs x) (set_aside words) (text_takes (set_aside words) x)
-    (text_taken (without_calls s) x (set_aside words) (refl, refl, λ level n is. absurd (cc is)) (and_parts s.texts (is_text (without_calls s) x) h).1
+    (text_taken (without_calls s) x (set_aside words) (refl, refl, λ level n is. absurd (cc is)) (and_parts s.texts
+    (is_text (without_calls s) x) h).1
     (omega (arith, fits)))
 put_item_taken words s (Y.PutValue (Y.BitValue x)) h fits = absurd (cc h)
 put_item_taken words s (Y.PutValue (Y.PointerValue x)) h fits = absurd (cc h)
@@ -761,7 +652,8 @@ mutual
       let b = and_parts (one || other) (is_condition s condition && inner) a.1 in
       let c = and_parts (is_condition s condition) inner b.1 in
       sets_either (max (stored_needs start) (behind_stored start (reference_needs variable)))
-      (max (condition_needs condition) (statements_need body)) (max (stored_sets start) (behind_sets start (reference_sets variable)))
+      (max (condition_needs condition) (statements_need body)) (max (stored_sets start) (behind_sets start
+      (reference_sets variable)))
       (max (condition_sets condition) (statements_set body)) (set_aside words)
       (assigned_takes (set_aside words) variable start)
       (most_taken (bit_if_takes (set_aside words) condition) (stmts_take (set_aside words) body))

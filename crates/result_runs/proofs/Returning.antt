@@ -1,4 +1,5 @@
--- RETURN with a number that fits or with a bit: its word goes into the function's frame, and the block comes to its end.
+-- RETURN with a number that fits or with a bit: its word goes into the function's frame, and the block comes to its
+-- end.
 use Rattle.std.proofs.Common.{◌≡◌, ℕ, ◌+◌, ◌^◌, ◌<◌, ◌≤◌, List, [], ◌∷◌, ◌++◌, length, Some, true, refl}
 use Rattle.std.proofs.Common.{sym, ap, ◌∙◌, subst, arith}
 use Rattle.std.proofs.lemmas.Bool.{eq-eqb}
@@ -218,7 +219,8 @@ at_result :
     (kind : LeafKind) (words : ℕ) (k : Block) (stmt : Y.Stmt) (line i left' need most : ℕ)
     (h : IsReturnOf kind words k stmt line i left' need most)
     (debt c' : ℕ) (f' : Family) (v' : Services) (value' : BasicValue) (given : ℕ) (s : State) (y : Stretch) →
-    given < 2 ^ 32 → IsOfKind kind (Some value') given → HasWord k y given c' f' v' s → y.wanted + size_of (store_word frame_register a0 (pos result)) ≤ debt →
+    given < 2 ^ 32 → IsOfKind kind (Some value') given → HasWord k y given c' f' v' s → y.wanted + size_of (store_word
+    frame_register a0 (pos result)) ≤ debt →
     Linked k.call.surroundings.links k.call.code y.index
     (store_word frame_register a0 (pos result) ++ (JumpTo (ReturnPlace k.call.beginning.head.number) ∷ [])) →
     (i0 : ℕ) (f0 : Family) (v0 : Services) → Between k.call.code (i0 + debt) f0 v0 c' f' v' →
@@ -387,7 +389,8 @@ pub number_returned :
     Fits (setting_around words k labels line most) need precision source →
     DoesWith words k labels (fitted_return precision source line) index left'
 number_returned words k labels precision most_bits source line index left' need most few bits h does =
-    return_by (Fixed most_bits) words k labels (Y.FixedLeaf precision) (Y.StoredNumber precision source) line index left'
+    return_by (Fixed most_bits) words k labels (Y.FixedLeaf precision) (Y.StoredNumber precision source) line index
+    left'
     need most refl h (IsNumberOf precision) (number_kept precision most_bits few bits)
     (number_leaves (setting_around words k labels line most) need precision source does)
 

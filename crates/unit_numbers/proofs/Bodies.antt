@@ -178,7 +178,8 @@ pub plain_of :
 plain_of {program} {m} {h} {c} {o} {os} {own} z labels stmt index around is fits sets at =
     let none = begin_unneeded (scope_of m c) c.valued labels stmt (λ head body. refl) is in
     form_does (scope_of m c) c.valued (block_of m h o os) own labels stmt index (most_for program) left_over z.ready
-    (record { at = around.at; includes = around.includes }) is fits (omega (arith, none)) (z.framed (statement_sets stmt)
+    (record { at = around.at; includes = around.includes }) is fits (omega (arith, none)) (z.framed (statement_sets
+    stmt)
     sets) at
 
 pub test_of :
@@ -308,7 +309,8 @@ unit_each once {program} m more each h ih blocks c o os e unit =
     knows told in
     let unneeded = begins_unneeded (scope_of m c) c.valued own c.body (λ head inner'. refl) (e.part.statements unit) in
     body_does (scope_of m c) c.valued (block_of m h o os) c.body c.index (most_for program) left_over z.ready
-    (e.part.statements unit) e.part.needs (omega (arith, unneeded)) (z.framed (statements_set c.body) (omega arith)) e.part.placed
+    (e.part.statements unit) e.part.needs (omega (arith, unneeded)) (z.framed (statements_set c.body) (omega arith))
+    e.part.placed
 
 -- the list of what is called, through phases
 visited_each :

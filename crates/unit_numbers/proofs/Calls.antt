@@ -119,7 +119,8 @@ call_by once {program} m h ih more b part out os a each own carries words set la
       inner = i.inside;
       parent = refl;
       found = subst (λ y. procedure_numbered i.head.number y.procedures
-          ≡ Some (record { block = Y.BlockOf i.head i.body; parameters = []; result = None })) (sym a.around) (returns_so i);
+          ≡ Some (record { block = Y.BlockOf i.head i.body; parameters = []; result = None })) (sym a.around)
+          (returns_so i);
       enter = subst (λ y. out.around.enter ≡ entered y (suc more)) (sym a.around) a.enter;
       around = ap (λ y. around_for y more) (sym a.around);
       enough = a.enough;
@@ -163,7 +164,8 @@ value_by once {program} m h ih more b part out os a each own carries words set l
     let around = i.around_it in
     let within' = a.inside in
     let stands = function_stands once program i.head i.body (precision_of i) (run_for m h.input h.acts)
-    (site_of program more (entered_at i k 0 k.first (λ n. 0))) m.loadable (returns_so i) (omega (arith, inside)) ih.few in
+    (site_of program more (entered_at i k 0 k.first (λ n. 0))) m.loadable (returns_so i) (omega (arith, inside)) ih.few
+    in
     let within = stands.stands.inside in
     let low = entry_low (program_environment program) i.head.number program.procedures (procedures_index program) in
     let is : IsNestedFunction z c level more = record {
