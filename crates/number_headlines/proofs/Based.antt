@@ -221,6 +221,53 @@ told_structure k φ φs waits newest p n ms ls is =
       low = is.low;
     }
 
+-- what is reached where so many words are set aside
+pub reached_known :
+    {program : Y.Program} (m : Main program) (input : List ℕ) (acts : ℕ) (valued : Bool) (more : ℕ) (a : Running)
+    (blocks : ℕ) → IsEntered m input acts valued more a blocks →
+    IsUnraised (block_of_run program input acts valued more a) (most_for program) → (words : ℕ) (labels : List Label)
+    (line : ℕ) →
+    KnowsReached (scope_of program m.called a.head a.body)
+    (setting_around words (block_of_run program input acts valued more a) labels line (most_for program))
+reached_known {program} m input acts valued more a blocks e u words labels line =
+    let k = block_of_run program input acts valued more a in
+    record {
+      pointers = λ x known. points m input acts valued more a blocks e x known;
+      reads = λ p n i known declared.
+          let f = found_number i (declared_variable program (based_of n)) declared in
+          let d = f.all.declared in
+          member_does (setting_around words k labels line (most_for program)) p n d.members d.leaves i
+          (leads_to m input acts valued more a blocks e p n known f.all) f.member
+          (record { routines = u.routines; raises = u.place; error = u.error; acts = u.acts; most = u.few }) refl;
+    }
+
+-- and what is written there, whatever waits
+pub told_placed :
+    {program : Y.Program} (m : Main program) (input : List ℕ) (acts : ℕ) (valued : Bool) (more : ℕ) (a : Running)
+    (blocks : ℕ) (e : IsEntered m input acts valued more a blocks) →
+    IsUnraised (block_of_run program input acts valued more a) (most_for program) → (waits : ℕ → Option ℕ) →
+    KnowsPlaced (scope_of program m.called a.head a.body)
+    (telling waits e.running.free.layer e.running.free.below (block_of_run program input acts valued more a))
+    (most_for program)
+told_placed {program} m input acts valued more a blocks e u waits =
+    let k = block_of_run program input acts valued more a in
+    let free = e.running.free in
+    let told = telling waits free.layer free.below k in
+    record {
+      pointers = λ place x known.
+          pointer_placed told place x
+          (told_pointer k free.layer free.below waits free.newest x
+          (points m input acts valued more a blocks e x known));
+      reads = λ words place labels line p n i known declared.
+          let f = found_number i (declared_variable program (based_of n)) declared in
+          let d = f.all.declared in
+          member_does (within place (setting_around words told labels line (most_for program))) p n d.members d.leaves i
+          (structure_placed told place p n d.members d.leaves
+          (told_structure k free.layer free.below waits free.newest p n d.members d.leaves
+          (leads_to m input acts valued more a blocks e p n known f.all))) f.member
+          (record { routines = u.routines; raises = u.place; error = u.error; acts = u.acts; most = u.few }) refl;
+    }
+
 pub told_reached :
     {program : Y.Program} (m : Main program) (input : List ℕ) (acts : ℕ) (valued : Bool) (more : ℕ) (a : Running)
     (blocks : ℕ) (e : IsEntered m input acts valued more a blocks) →
@@ -266,12 +313,6 @@ based_known {program} m input acts valued more a blocks few e u may =
     let most = most_for program in
     record {
       pointers = λ x known. points m input acts valued more a blocks e x known;
-      reads = λ labels line p n i includes known declared.
-          let f = found_number i (declared_variable program (based_of n)) declared in
-          let d = f.all.declared in
-          member_does (setting_around 0 k labels line most) p n d.members d.leaves i
-          (leads_to m input acts valued more a blocks e p n known f.all) f.member
-          (ends_at m input acts valued more a u labels line) refl;
       followed = λ labels x p n i line index includes to known declared less l.
           let f = found_pointer i (declared_variable program (based_of n)) declared in
           let d = f.all.declared in

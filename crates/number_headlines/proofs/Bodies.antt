@@ -43,7 +43,6 @@ use Rattle.nested_calls.proofs.NestedFunctions.{deep_function_ends, nested_funct
 use Rattle.number_runs.specs.Knowledge as Left
 use Rattle.number_runs.specs.Knowledge.{IsReady, IsUnraised, IsValued, KnowsAroundTexts, KnowsCalls, KnowsPuts}
 use Rattle.number_runs.specs.Knowledge.{KnowsRaises, call_number, call_statement, most_set, KnowsSignals}
-use Rattle.number_runs.specs.Numbers.{without_located}
 use Rattle.number_runs.specs.Statements.{statements_set}
 use Rattle.number_runs.specs.Variables.{bytes_of}
 use Rattle.number_runs.proofs.Homes.{none_raised}
@@ -61,7 +60,7 @@ use Rattle.number_headlines.proofs.ListBodies.{knows_given}
 use Rattle.number_headlines.proofs.Inner.{Inner, inner_none}
 use Rattle.number_headlines.proofs.Mains.{Main, most_for, result_of, run_for}
 use Rattle.number_headlines.proofs.Puts.{constants_known, error_routine, lists_known}
-use Rattle.number_headlines.proofs.Based.{based_known, placed_known, told_reached}
+use Rattle.number_headlines.proofs.Based.{based_known, placed_known, reached_known, told_placed, told_reached}
 use Rattle.number_headlines.proofs.Running.{EachBody, EachGiven, IsEntered, IsRunning, Running, block_of_run, told_run}
 use Rattle.number_headlines.proofs.Running.{told_running, waited_running}
 use Rattle.number_headlines.proofs.Tables.{block_known}
@@ -163,21 +162,27 @@ puts_of once {program} m input acts valued more a blocks few e =
     let u = unraised_of once m input acts valued more a blocks few h in
     puts_known (scope_of program m.called a.head a.body) k (most_for program) h.begun u h.variables (λ may. h.arrays)
     (λ may. h.narrows) h.parameters (λ may. absurd (cc may)) (λ may. constants_known program k m.memory h.told refl)
-    (lists_known program k m.memory h.told) (λ may. placed_known m input acts valued more a blocks e u)
+    (lists_known program k m.memory h.told) (placed_known m input acts valued more a blocks e u)
 
--- but nothing that is BASED where limits wait
+-- also where limits wait
 told_puts :
     MarkedOnce → {program : Y.Program} (m : Main program) (input : List ℕ) (acts : ℕ) (valued : Bool) (more : ℕ)
-    (a : Running) (blocks : ℕ) → acts + 1 < 2 ^ 64 → IsRunning m input acts valued more a blocks →
-    KnowsPuts (without_located (scope_of program m.called a.head a.body))
-    (block_of_run program input acts valued more a) (most_for program)
+    (a : Running) (blocks : ℕ) → acts + 1 < 2 ^ 64 → (e : IsEntered m input acts valued more a blocks) →
+    (waits : ℕ → Option ℕ) →
+    KnowsPuts (scope_of program m.called a.head a.body)
+    (block_of_run program input acts valued more (told_run a waits e.running.free.layer e.running.free.below))
+    (most_for program)
 unfolding unraised_of
-told_puts once {program} m input acts valued more a blocks few h =
-    let k = block_of_run program input acts valued more a in
-    puts_known (without_located (scope_of program m.called a.head a.body)) k (most_for program) h.begun
-    (unraised_of once m input acts valued more a blocks few h) h.variables (λ may. h.arrays)
+told_puts once {program} m input acts valued more a blocks few e waits =
+    let b = told_run a waits e.running.free.layer e.running.free.below in
+    let h = told_running e.running waits in
+    let k = block_of_run program input acts valued more b in
+    puts_known (scope_of program m.called a.head a.body) k (most_for program) h.begun
+    (unraised_of once m input acts valued more b blocks few h) h.variables (λ may. h.arrays)
     (λ may. h.narrows) h.parameters (λ may. absurd (cc may)) (λ may. constants_known program k m.memory h.told refl)
-    (lists_known program k m.memory h.told) (λ may. absurd (cc may))
+    (lists_known program k m.memory h.told)
+    (told_placed m input acts valued more a blocks e (unraised_of once m input acts valued more a blocks few e.running)
+    waits)
 
 -- wherever limits wait in words of its frame, and texts on their stack, calls do what they mean
 abbrev EachCall : {program : Y.Program} → Main program → (input : List ℕ) → (acts : ℕ) → (valued : Bool) →
@@ -234,6 +239,9 @@ ready once {program} m input acts valued more a blocks few e calls given =
       parameters = h.parameters;
       codes = λ may. absurd (cc may);
       calls = calls a.layers a.texts (labels_in a.body ++ []) h;
+      reached = λ words' less labels line includes.
+          reached_known m input acts valued more a blocks e (unraised_of once m input acts valued more a blocks few h)
+          words' labels line;
       based = λ may.
           based_known m input acts valued more a blocks few e (unraised_of once m input acts valued more a blocks few h)
           may;
@@ -259,11 +267,10 @@ ready once {program} m input acts valued more a blocks few e calls given =
             (told_running h waits) calls;
         signals = λ waits.
             signals_of once m input acts valued more (told_run a waits φ φs) blocks few (told_running h waits);
-        reached = λ waits may words' less labels line includes.
+        reached = λ waits words' less labels line includes.
             told_reached m input acts valued more a blocks e (unraised_of once m input acts valued more a blocks few h)
             waits words' labels line;
-        puts = λ waits may.
-            told_puts once m input acts valued more (told_run a waits φ φs) blocks few (told_running h waits);
+        puts = λ waits may. told_puts once m input acts valued more a blocks few e waits;
       };
       room = omega arith;
       home = λ may. record {

@@ -1,19 +1,22 @@
 -- What pointers lead to, as the class admits it: what is declared, references to it, and the statements about it.
-use Rattle.std.proofs.Common.{◌≡◌, ℕ, List, [], ◌∷◌, Option, None, Some, true, refl, ap, ◌∙◌}
+use Rattle.std.proofs.Common.{◌≡◌, ℕ, List, [], ◌∷◌, Option, None, Some, true, refl, ap, ◌∙◌, subst}
 use Rattle.std.specs.Prelude.{◌^◌, ◌≤◌, ◌&&◌, ◌==◌, Bool, nat_le, negsuc, pos}
+use Rattle.std.specs.List.{list_any}
 use Rattle.std.proofs.lemmas.Bool.{and_parts, eqb-true, leb-true}
 use Rattle.pli_language.specs.Tree as T
 use Rattle.pli_typing.specs.TypedTree as Y
+use Rattle.pli_meaning.specs.DeclaredShapes.{declared_variable}
 use Rattle.expression_runs.specs.Variables.{Spot, variable_of, whole}
 use Rattle.scalar_runs.specs.Scalars.{scalar_leaf}
 use Rattle.area_runs.specs.Based.{based_of, pointer_declared}
 use Rattle.area_freeings.specs.Freeing.{freed_by}
 use Rattle.member_runs.specs.Members.{member_of, member_part, structure_declared}
 use Rattle.number_runs.specs.Based.{is_area, is_area_type, is_based, is_based_class, is_made_class, is_one_leaf}
-use Rattle.number_runs.specs.Based.{are_some_members, is_closed, is_one_of, is_pointer, is_pointer_type, is_word_type}
+use Rattle.number_runs.specs.Based.{are_some_members, is_closed, is_one_of, is_pointer, is_pointer_if, is_pointer_type}
+use Rattle.number_runs.specs.Based.{is_word_type}
 use Rattle.number_runs.specs.Narrow.{type_in}
 use Rattle.number_runs.specs.Numbers.{Scope, is_area_known, is_automatic, is_based_known, is_based_variable, is_located}
-use Rattle.number_runs.specs.Numbers.{is_member_known, is_pointer_in, is_pointer_known, spot_of}
+use Rattle.number_runs.specs.Numbers.{is_member_known, is_place, is_pointer_in, is_pointer_known, spot_of}
 use Rattle.number_runs.specs.Statements.{is_allocation, is_area_variable, is_freeing}
 use Rattle.number_runs.proofs.Variables.{automatic_is, part_is}
 
@@ -170,6 +173,12 @@ area_is d h =
 
 -- ---- references
 
+-- where no block has any none is known
+pub none_pointing : (s : Scope) (x : Spot) → s.pointers ≡ [] → is_pointer_known s x ≡ true → ⊥
+none_pointing s x none h =
+    cc (subst (λ ps. list_any (is_place x) ps ≡ true) none
+    (and_parts (list_any (is_place x) s.pointers) (is_pointer_if (declared_variable s.program (variable_of x))) h).0)
+
 -- all of a pointer that is known
 pub record IsPointerIn (s : Scope) (r : Y.Reference) : Type 0 where
   pub spot : Spot
@@ -214,7 +223,6 @@ pub record IsThrough (s : Scope) (test : Y.LeafType → Bool) (r : Y.Reference) 
   pub is : r ≡ member_of pointer based member
   pub known : is_pointer_known s pointer ≡ true
   pub declared : is_member_known s test based member ≡ true
-  pub may : s.locates ≡ true
 
 pub through_is :
     (s : Scope) (test : Y.LeafType → Bool) (v : Y.Variable) (p : Y.Pointer) (part : Y.Part) →
@@ -222,8 +230,7 @@ pub through_is :
 through_is s test v (Y.PointerIn r) part h =
     let x = spot_of v in
     let last = is_member_known s test x part.first && is_pointer_in s r in
-    let a = and_parts s.locates (is_based_class v.class && ((part.count == 1) && last)) h in
-    let b = and_parts (is_based_class v.class) ((part.count == 1) && last) a.1 in
+    let b = and_parts (is_based_class v.class) ((part.count == 1) && last) h in
     let c = and_parts (part.count == 1) last b.1 in
     let d = and_parts (is_member_known s test x part.first) (is_pointer_in s r) c.1 in
     let p = pointer_in s r d.1 in
@@ -239,7 +246,6 @@ through_is s test v (Y.PointerIn r) part h =
           ∙ ap (λ q. Y.Referring (based_of x) (Y.LocatedBy (Y.PointerIn q)) (member_part part.first) Y.NoNumber) p.is;
       known = p.known;
       declared = d.0;
-      may = a.0;
     }
 through_is s test v Y.NullPointer part h = absurd (cc h)
 through_is s test v (Y.PointerFrom c) part h = absurd (cc h)

@@ -222,8 +222,8 @@ numbers_told s k h g words few waits free =
             g.given words' waits' level n need ways some
             (stored_untold waits g.layer g.others k.block.first ways stored) free' room is give;
       };
-      pointers = λ may. (g.reached may words few waits).pointers;
-      located = λ may. (g.reached may words few waits).reads;
+      pointers = (g.reached words few waits).pointers;
+      located = (g.reached words few waits).reads;
     }
 
 -- what it is if it is no scalar of fewer bits
@@ -535,7 +535,7 @@ mutual
       absurd (cc is)
   reference_does s k (Y.Referring v (Y.LocatedBy p) part Y.NoNumber) h is room =
       let w = through_is s is_word_type v p part is in
-      subst (λ r. Does k 0 (Y.NumberIn r)) (sym w.is) (h.located w.may w.pointer w.based w.member w.known w.declared)
+      subst (λ r. Does k 0 (Y.NumberIn r)) (sym w.is) (h.located w.pointer w.based w.member w.known w.declared)
   reference_does s k (Y.Referring v (Y.LocatedBy p) part (Y.NumberThen first rest)) h is room = absurd (cc is)
 
   numbers_do :

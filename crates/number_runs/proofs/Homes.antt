@@ -36,7 +36,7 @@ use Rattle.number_runs.specs.Numbers.{number_needs, number_sets, reference_needs
 use Rattle.number_runs.specs.Based.{is_word_type}
 use Rattle.number_runs.specs.Numbers.{is_located}
 use Rattle.number_runs.specs.Statements.{is_line, is_stored, stored_needs, stored_sets, is_allocation}
-use Rattle.number_runs.specs.Statements.{is_area_variable, is_freeing}
+use Rattle.number_runs.specs.Statements.{is_area_variable, is_freeing, is_placed}
 use Rattle.area_runs.specs.Allocations.{allocation}
 use Rattle.member_runs.specs.MemberAssignments as M
 use Rattle.member_runs.specs.Members.{member_of}
@@ -153,7 +153,7 @@ given_in {s} r words c may low labels line includes =
             errors = t.errors words' set labels line includes;
             waits = λ entries. t.waits words' set line entries;
           };
-      reached = λ may' words' few waits. (l.reached waits) may' words' few labels line includes;
+      reached = λ words' few waits. l.reached waits words' few labels line includes;
       given = λ words' waits level n need ways some stored free room is does.
           g.functions words' waits labels line level n need ways some stored includes free room is does;
     }
@@ -161,9 +161,9 @@ given_in {s} r words c may low labels line includes =
 abbrev pub knows_in :
     {s : Scope} → {valued : Bool} → {k : Block} → {own : List Label} → {most left' : ℕ} →
     (r : IsReady s valued k own most left') → (words : ℕ) → MayBeSet s words →
-    ((c : s.counts ≡ true) → (r.loops c).behind ≤ words) → (s.locates ≡ true → words ≡ 0) → (labels : List Label) →
-    (line : ℕ) → Includes own labels → KnowsNumbers s (setting_around words k labels line most)
-knows_in {s} {k = k} {most = most} r words set low plain labels line includes =
+    ((c : s.counts ≡ true) → (r.loops c).behind ≤ words) → (labels : List Label) → (line : ℕ) →
+    Includes own labels → KnowsNumbers s (setting_around words k labels line most)
+knows_in {s} r words set low labels line includes =
     record {
       begun = r.begun;
       overflow = λ may. r.raises.overflow may words set labels line includes;
@@ -178,25 +178,23 @@ knows_in {s} {k = k} {most = most} r words set low plain labels line includes =
       texts = λ may. texts_in r words set may labels line includes;
       given = λ may.
           let c = and_parts s.gives s.counts may in given_in r words c.1 c.0 (low c.1) labels line includes;
-      pointers = λ may. (r.based may).pointers;
-      located = λ may p n m known declared.
-          subst (λ w. L.Does (setting_around w k labels line most) 0 (Y.NumberIn (member_of p n m))) (sym (plain may))
-          ((r.based may).reads labels line p n m includes known declared);
+      pointers = (r.reached words set.0 labels line includes).pointers;
+      located = (r.reached words set.0 labels line includes).reads;
     }
 
 abbrev pub knows :
     (h : Home) → (labels : List Label) → (line : ℕ) → Includes h.own labels →
     KnowsNumbers h.scope (setting_around h.words h.block labels line h.most)
-knows h labels line includes = knows_in h.ready h.words h.set h.low h.plain labels line includes
+knows h labels line includes = knows_in h.ready h.words h.set h.low labels line includes
 
 -- the words that its frame has left
 pub lists_in :
     {s : Scope} {valued : Bool} {k : Block} {own : List Label} {most left' : ℕ}
     (r : IsReady s valued k own most left') (words : ℕ) (set : MayBeSet s words)
-    (low : (c : s.counts ≡ true) → (r.loops c).behind ≤ words) (plain : s.locates ≡ true → words ≡ 0)
+    (low : (c : s.counts ≡ true) → (r.loops c).behind ≤ words)
     (labels : List Label) (line : ℕ) (includes : Includes own labels) (m n : ℕ) → m ≤ n → HasFrame r words n →
-    HasLists (knows_in r words set low plain labels line includes) m
-lists_in {s} r words set low plain labels line includes m n less sets may =
+    HasLists (knows_in r words set low labels line includes) m
+lists_in {s} r words set low labels line includes m n less sets may =
     let room = (sets (and_parts s.gives s.counts may).1).1 in
     omega (arith, less, room)
 
@@ -204,7 +202,7 @@ pub lists_at :
     (h : Home) (labels : List Label) (line : ℕ) (includes : Includes h.own labels) (m n : ℕ) → m ≤ n →
     HasFrame h.ready h.words n → HasLists (knows h labels line includes) m
 lists_at h labels line includes m n less sets =
-    lists_in h.ready h.words h.set h.low h.plain labels line includes m n less sets
+    lists_in h.ready h.words h.set h.low labels line includes m n less sets
 
 pub has_test :
     (h : Home) (stmt : Y.Stmt) (condition : Y.Bit) (line index : ℕ) → is_line line ≡ true →
@@ -331,19 +329,19 @@ bare_coded h labels stmt index none does =
 located_does :
     (h : Home) (labels : List Label) (v : Y.Variable) (p : Y.Pointer) (part : Y.Part) (source : Y.Stored)
     (line index : ℕ) → Includes h.own labels → is_line line ≡ true → is_located h.scope is_word_type v p part ≡ true →
-    is_stored h.scope source ≡ true → max (stored_needs source) 1 ≤ h.block.registers →
+    h.scope.locates ≡ true → is_stored h.scope source ≡ true → max (stored_needs source) 1 ≤ h.block.registers →
     {n : ℕ} → stored_sets source ≤ n → HasFrame h.ready h.words n →
     Coded h labels (Y.Assign (Y.Referring v (Y.LocatedBy p) part Y.NoNumber) source line) index
-located_does h labels v p part source line index includes is one two fits {n} less sets =
+located_does h labels v p part source line index includes is one may two fits {n} less sets =
     let w = through_is h.scope is_word_type v p part one in
     let x = storing h.scope source two in
     let needs = x.needs in
     let few = x.sets in
-    let none = h.plain w.may in
+    let none = h.plain may in
     subst (λ t. Coded h labels (Y.Assign t source line) index) (sym w.is)
     (subst (λ q. Coded h labels (Y.Assign (member_of w.pointer w.based w.member) q line) index) (sym x.is)
     (bare_coded h labels (M.assignment w.pointer w.based w.member x.number line) index none
-    (λ l. (h.ready.based w.may).assigned labels w.pointer w.based w.member x.number line index (number_needs x.number)
+    (λ l. (h.ready.based may).assigned labels w.pointer w.based w.member x.number line index (number_needs x.number)
     includes w.known w.declared (ltb-true line (2 ^ 31) is) (omega (arith, fits, needs)) (omega (arith, fits)) l
     (subst (λ q. L.Does (setting_around q h.block labels line h.most) (number_needs x.number) x.number) none
     (number_does h.scope (setting_around h.words h.block labels line h.most) x.number (knows h labels line includes)
@@ -392,27 +390,27 @@ element_given h labels v part subscript source line index includes is one number
 pub given_does :
     (h : Home) (labels : List Label) (target : Y.Reference) (source : Y.Stored) (line index : ℕ) →
     Includes h.own labels → is_line line ≡ true → is_reference h.scope target ≡ true →
-    is_stored h.scope source ≡ true →
+    is_placed h.scope target ≡ true → is_stored h.scope source ≡ true →
     max (stored_needs source) (suc (reference_needs target)) ≤ h.block.registers →
     HasFrame h.ready h.words (max (stored_sets source) (reference_sets target)) →
     Coded h labels (Y.Assign target source line) index
-given_does h labels (Y.Referring v Y.NotLocated part Y.NoNumber) source line index includes is one two fits sets =
+given_does h labels (Y.Referring v Y.NotLocated part Y.NoNumber) source line index includes is one placed two fits sets =
     let r = Y.Referring v Y.NotLocated part Y.NoNumber in
     scalar_does h labels r source line index includes is (or_cases (is_variable h.scope r) (is_given h.scope r) one) two
     (omega (arith, fits))
     (λ c. let room = (sets c).1 in ((sets c).0, omega (arith, room)))
 given_does h labels (Y.Referring v Y.NotLocated part (Y.NumberThen subscript Y.NoNumber)) source line index includes is
-    one two fits sets =
+    one placed two fits sets =
     let a = and_parts (is_element h.scope v part) (is_number h.scope subscript && is_wider h.scope subscript) one in
     element_given h labels v part subscript source line index includes is a.0 a.1 two (omega (arith, fits))
     (omega (arith, fits)) (λ c. let room = (sets c).1 in ((sets c).0, omega (arith, room)))
 given_does h labels (Y.Referring v Y.NotLocated part (Y.NumberThen first (Y.NumberThen second rest))) source line index
-    includes is one two fits sets =
+    includes is one placed two fits sets =
     absurd (cc one)
-given_does h labels (Y.Referring v (Y.LocatedBy p) part Y.NoNumber) source line index includes is one two fits sets =
-    located_does h labels v p part source line index includes is one two (omega (arith, fits))
+given_does h labels (Y.Referring v (Y.LocatedBy p) part Y.NoNumber) source line index includes is one placed two fits sets =
+    located_does h labels v p part source line index includes is one placed two (omega (arith, fits))
     {n = max (stored_sets source) (max 5 0)} (omega arith) sets
-given_does h labels (Y.Referring v (Y.LocatedBy p) part (Y.NumberThen first rest)) source line index includes is one two
+given_does h labels (Y.Referring v (Y.LocatedBy p) part (Y.NumberThen first rest)) source line index includes is one placed two
     fits sets =
     absurd (cc one)
 

@@ -1,5 +1,5 @@
 -- Pointers as the class admits them: what is assigned to one, and two that are compared.
-use Rattle.std.proofs.Common.{◌≡◌, ◌⊎◌, inl, inr, ℕ, true, sym, subst}
+use Rattle.std.proofs.Common.{◌≡◌, ◌⊎◌, inl, inr, ℕ, [], true, sym, subst}
 use Rattle.std.specs.Prelude.{◌&&◌, ◌||◌, Bool}
 use Rattle.std.proofs.lemmas.Bool.{and_parts, or_cases}
 use Rattle.pli_typing.specs.TypedTree as Y
@@ -13,28 +13,26 @@ use Rattle.number_runs.specs.Knowledge.{KnowsNumbers}
 use Rattle.number_runs.specs.Numbers.{Scope, are_compared, is_followed, is_member_known, is_pointer_in}
 use Rattle.number_runs.specs.Numbers.{is_pointer_known}
 use Rattle.number_runs.specs.Statements.{is_pointed}
-use Rattle.number_runs.proofs.Based.{IsThrough, pointer_in, through_is}
+use Rattle.number_runs.proofs.Based.{IsThrough, none_pointing, pointer_in, through_is}
 
 -- ---- two that are compared
 
 -- what is so of one and NULL, and of any two, is so of these
-by_compared :
+pub by_compared :
     (s : Scope) (P : Y.Pointer → Y.Pointer → Type 0) →
-    (s.locates ≡ true → (x : Spot) → is_pointer_known s x ≡ true → P (Y.PointerIn (whole x)) Y.NullPointer) →
-    (s.locates ≡ true → (x y : Spot) → is_pointer_known s x ≡ true → is_pointer_known s y ≡ true →
+    ((x : Spot) → is_pointer_known s x ≡ true → P (Y.PointerIn (whole x)) Y.NullPointer) →
+    ((x y : Spot) → is_pointer_known s x ≡ true → is_pointer_known s y ≡ true →
     P (Y.PointerIn (whole x)) (Y.PointerIn (whole y))) → (left right : Y.Pointer) → are_compared s left right ≡ true →
     P left right
 by_compared s P one two (Y.PointerIn x) Y.NullPointer h =
-    let a = and_parts s.locates (is_pointer_in s x) h in
-    let l = pointer_in s x a.1 in
-    subst (λ r. P (Y.PointerIn r) Y.NullPointer) (sym l.is) (one a.0 l.spot l.known)
+    let l = pointer_in s x h in
+    subst (λ r. P (Y.PointerIn r) Y.NullPointer) (sym l.is) (one l.spot l.known)
 by_compared s P one two (Y.PointerIn x) (Y.PointerIn y) h =
-    let a = and_parts s.locates (is_pointer_in s x && is_pointer_in s y) h in
-    let b = and_parts (is_pointer_in s x) (is_pointer_in s y) a.1 in
+    let b = and_parts (is_pointer_in s x) (is_pointer_in s y) h in
     let l = pointer_in s x b.0 in
     let m = pointer_in s y b.1 in
     subst (λ r. P (Y.PointerIn r) (Y.PointerIn y)) (sym l.is)
-    (subst (λ r. P (Y.PointerIn (whole l.spot)) (Y.PointerIn r)) (sym m.is) (two a.0 l.spot m.spot l.known m.known))
+    (subst (λ r. P (Y.PointerIn (whole l.spot)) (Y.PointerIn r)) (sym m.is) (two l.spot m.spot l.known m.known))
 by_compared s P one two (Y.PointerIn x) (Y.PointerFrom c) h = absurd (cc h)
 by_compared s P one two (Y.PointerIn x) (Y.AddressOf r) h = absurd (cc h)
 by_compared s P one two (Y.PointerIn x) (Y.PointerInto y area) h = absurd (cc h)
@@ -43,26 +41,18 @@ by_compared s P one two (Y.PointerFrom c) right h = absurd (cc h)
 by_compared s P one two (Y.AddressOf r) right h = absurd (cc h)
 by_compared s P one two (Y.PointerInto x area) right h = absurd (cc h)
 
-pub compared_may :
-    (s : Scope) (left right : Y.Pointer) → are_compared s left right ≡ true → s.locates ≡ true
-compared_may s left right h =
-    by_compared s (λ l r. s.locates ≡ true) (λ may x known. may) (λ may x y known other. may) left right h
+pub none_compared : (s : Scope) (left right : Y.Pointer) → s.pointers ≡ [] → are_compared s left right ≡ true → ⊥
+none_compared s left right none h =
+    by_compared s (λ l r. ⊥) (λ x known. none_pointing s x none known) (λ x y known other. none_pointing s x none known)
+    left right h
 
 pub compared_does :
     (s : Scope) (k : Setting) (equal : Bool) (left right : Y.Pointer) → KnowsNumbers s k →
     are_compared s left right ≡ true → Tests k 0 (Y.PointersCompared equal left right)
 compared_does s k equal left right h is =
     by_compared s (λ l r. Tests k 0 (Y.PointersCompared equal l r))
-    (λ may x known. null_tests k equal x (h.pointers may x known))
-    (λ may x y known other. both_test k equal x y (h.pointers may x known) (h.pointers may y other)) left right is
-
--- by their words
-pub compared_by :
-    (s : Scope) (P : Y.Pointer → Y.Pointer → Type 0) → ((x : Spot) → P (Y.PointerIn (whole x)) Y.NullPointer) →
-    ((x y : Spot) → P (Y.PointerIn (whole x)) (Y.PointerIn (whole y))) → (left right : Y.Pointer) →
-    are_compared s left right ≡ true → P left right
-compared_by s P one two left right h =
-    by_compared s P (λ may x known. one x) (λ may x y known other. two x y) left right h
+    (λ x known. null_tests k equal x (h.pointers x known))
+    (λ x y known other. both_test k equal x y (h.pointers x known) (h.pointers y other)) left right is
 
 -- ---- what is assigned
 
@@ -154,12 +144,13 @@ by_pointed s P each target (Y.PointerFrom c) h = absurd (cc h)
 by_pointed s P each target (Y.AddressOf r) h = absurd (cc h)
 by_pointed s P each target (Y.PointerInto y area) h = absurd (cc h)
 
-pub pointed_may : (s : Scope) (target : Y.Reference) (x : Y.Pointer) → is_pointed s target x ≡ true → s.locates ≡ true
-pointed_may s target x h =
-    by_pointed s (λ r p. s.locates ≡ true) (record {
-      null = λ may y known. may;
-      copied = λ may y z known other. may;
-      followed = λ may y p n m known other member. may;
-      nulled = λ may c p n m known member. may;
-      linked = λ may c p n m y known member other. may;
+pub none_pointed : (s : Scope) (target : Y.Reference) (x : Y.Pointer) → s.pointers ≡ [] → is_pointed s target x ≡ true →
+    ⊥
+none_pointed s target x none h =
+    by_pointed s (λ r p. ⊥) (record {
+      null = λ may y known. none_pointing s y none known;
+      copied = λ may y z known other. none_pointing s y none known;
+      followed = λ may y p n m known other member. none_pointing s y none known;
+      nulled = λ may c p n m known member. none_pointing s p none known;
+      linked = λ may c p n m y known member other. none_pointing s p none known;
     }) target x h

@@ -138,9 +138,8 @@ numbers_written {s} {k} {most} knows words may place labels line =
       functions = h.functions;
       texts = λ may'. texts_written s (within place (setting_around words k labels line most)) (h.texts may');
       given = λ may'. absurd (cc may');
-      pointers = λ may' x known. (knows.located may').pointers place x known;
-      located = λ may' p n m known declared.
-          (knows.located may').reads words place labels line p n m known declared;
+      pointers = λ x known. knows.located.pointers place x known;
+      located = λ p n m known declared. knows.located.reads words place labels line p n m known declared;
     }
 
 -- where the statement stands, in a block of a scope, while so many words are set aside, and that one act pays for it
@@ -298,7 +297,7 @@ pub puts_known :
     (s.elements ≡ true → (x : Spot) → is_array_known s x ≡ true → IsArray k x (bounds_known s x)) →
     (s.narrows ≡ true → (x : Spot) → is_narrow_known s x ≡ true → IsScalar k x (type_known s x)) →
     ((x : Spot) → is_received s x ≡ true → IsParameter k x) → (s.codes ≡ true → HasCode k) →
-    (s.texts ≡ true → KnowsConstants k) → KnowsLists k → (s.locates ≡ true → KnowsPlaced s k most) →
+    (s.texts ≡ true → KnowsConstants k) → KnowsLists k → KnowsPlaced s k most →
     KnowsPuts s k most
 puts_known s k most b u variables arrays narrows parameters codes constants lists located =
     let few = u.few in
@@ -332,8 +331,8 @@ puts_known s k most b u variables arrays narrows parameters codes constants list
             arrays = λ may x is. array_placed k place x (bounds_known s x) (arrays may x is);
             narrows = λ may x is. narrow_placed k place x (type_known s x) (narrows may x is);
             parameters = λ x is. parameter_placed k place x (parameters x is);
-            pointers = λ may. absurd (cc may);
-            located = λ may. absurd (cc may);
+            pointers = λ x known. absurd (cc known);
+            located = λ p n m known declared. absurd (cc known);
             codes = codes;
             functions = λ level n is. absurd (cc is);
             texts = λ may.

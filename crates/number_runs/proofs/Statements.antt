@@ -45,6 +45,7 @@ use Rattle.number_runs.specs.Statements.{are_statements, behind_stored, is_line,
 use Rattle.number_runs.specs.Statements.{statement_needs}
 use Rattle.number_runs.specs.Statements.{is_narrowed, statement_sets, statements_need, statements_set, stored_needs}
 use Rattle.number_runs.specs.Statements.{behind_sets, stored_sets, is_allocation, is_area_variable, is_freeing}
+use Rattle.number_runs.specs.Statements.{is_placed}
 use Rattle.number_runs.proofs.Counters.{IsCounting, counting_is, counting_of, statement_is}
 use Rattle.number_runs.proofs.Expressions.{number_does, test_does}
 use Rattle.number_runs.proofs.Homes.{Home, act_of, paid_for, knows, knows_in, has_test, given_does, lists_at}
@@ -243,7 +244,6 @@ counts_by h labels {v = v} {o = o} x body line index placed is c none fits all s
     let at' = h.low c' in omega (arith, at') in
     let left : (count : ℕ) → count ≤ count_sets v o → HasFrame h.ready three count = λ count less c'.
     let room' = (all c').1 in (low' c', omega (arith, less, room')) in
-    let plain : h.scope.locates ≡ true → three ≡ 0 = λ may. absurd (cc (sym none ∙ may)) in
     count_does h.words h.block count l.layer l.others labels index h.left' need h.most
     (record {
       act = act_of h line is;
@@ -262,8 +262,8 @@ counts_by h labels {v = v} {o = o} x body line index placed is c none fits all s
     })
     (let k' = N.setting_with h.block labels line h.most three in
     does_more k' (number_needs x.first) need x.first (omega (arith, first))
-    (number_does h.scope k' x.first (knows_in h.ready three few low' plain labels line placed.includes) x.first_known
-    (lists_in h.ready three few low' plain labels line placed.includes (number_sets x.first) (number_sets x.first)
+    (number_does h.scope k' x.first (knows_in h.ready three few low' labels line placed.includes) x.first_known
+    (lists_in h.ready three few low' labels line placed.includes (number_sets x.first) (number_sets x.first)
     (omega arith) (left (number_sets x.first) (omega (arith, starts))))))
     (λ z wide. let k' = N.setting_with (N.starting h.words l.layer l.others h.block z) labels line h.most three in
     let free = free_above l.layer.waits l.behind (h.words + 2) (word z) three l.free (omega (arith, low)) (omega arith)
@@ -274,15 +274,15 @@ counts_by h labels {v = v} {o = o} x body line index placed is c none fits all s
     (omega (arith, room, limits)) in
     let low'' : (c' : h.scope.counts ≡ true) → (told.loops c').behind ≤ three = λ c'. (frame c').0 in
     does_more k' (number_needs x.last) need x.last (omega (arith, last))
-    (number_does h.scope k' x.last (knows_in told three few low'' plain labels line placed.includes) x.last_known
-    (lists_in told three few low'' plain labels line placed.includes (number_sets x.last) (number_sets x.last)
+    (number_does h.scope k' x.last (knows_in told three few low'' labels line placed.includes) x.last_known
+    (lists_in told three few low'' labels line placed.includes (number_sets x.last) (number_sets x.last)
     (omega arith)
     frame)))
     (λ y wide. let t = in_turn h c none sets y in
     number_counts (N.setting_with t.block labels line h.most (h.words + 2)) x.spot need t.ready.begun
     (t.ready.variables x.spot x.known))
     (λ y wide. let t = in_turn h c none sets y in
-    (knows_in t.ready (h.words + 2) t.set t.low t.plain labels line placed.includes).overflow x.overflows)
+    (knows_in t.ready (h.words + 2) t.set t.low labels line placed.includes).overflow x.overflows)
     (λ y wide. let t = in_turn h c none sets y in
     let i = N.body_index h.words h.block count index in
     let stands = turn_stands h.words h.block count index x.step at in
@@ -311,14 +311,16 @@ counted_does h labels x body line index placed is c none fits all sets each =
 assignment_does :
     (h : Home) (labels : List Label) (target : Y.Reference) (source : Y.Stored) (line index : ℕ) →
     Includes h.own labels → is_line line ≡ true →
-    ((is_reference h.scope target && is_stored h.scope source) ≡ true) ⊎ (is_narrowed h.scope target source ≡ true) →
+    ((is_reference h.scope target && (is_placed h.scope target && is_stored h.scope source)) ≡ true)
+    ⊎ (is_narrowed h.scope target source ≡ true) →
     max (stored_needs source) (behind_stored source (reference_needs target)) ≤ h.block.registers →
     HasFrame h.ready h.words (max (stored_sets source) (behind_sets source (reference_sets target))) →
     Coded h labels (Y.Assign target source line) index
 assignment_does h labels target source line index includes is (inl h') fits sets =
-    let b = and_parts (is_reference h.scope target) (is_stored h.scope source) h' in
+    let a = and_parts (is_reference h.scope target) (is_placed h.scope target && is_stored h.scope source) h' in
+    let b = and_parts (is_placed h.scope target) (is_stored h.scope source) a.1 in
     let n = behind_number h.scope source (reference_needs target) b.1 in
-    given_does h labels target source line index includes is b.0 b.1 (omega (arith, fits, n))
+    given_does h labels target source line index includes is a.0 b.0 b.1 (omega (arith, fits, n))
     (subst (λ i. HasFrame h.ready h.words (max (stored_sets source) i))
     (sets_number h.scope source (reference_sets target) b.1) sets)
 assignment_does h labels target source line index includes is (inr h') fits sets =
@@ -335,7 +337,7 @@ mutual
   statement_does h labels (Y.Null line) index placed is fits sets at =
       null_does h.block line index h.left' (act_of h line is) at.linked labels
   statement_does h labels (Y.Assign target source line) index placed is fits sets at =
-      let one = is_reference h.scope target && is_stored h.scope source in
+      let one = is_reference h.scope target && (is_placed h.scope target && is_stored h.scope source) in
       let other = is_narrowed h.scope target source in
       let a = and_parts (is_line line) (one || other) is in
       assignment_does h labels target source line index placed.includes a.0 (or_cases one other a.1) fits sets

@@ -36,7 +36,7 @@ use Rattle.number_runs.specs.Puts.{is_list}
 use Rattle.number_runs.specs.Puts.{put_item_needs, put_item_sets, put_items_need, put_items_set, put_needs, put_sets}
 use Rattle.number_runs.specs.Puts.{without_calls, without_functions}
 use Rattle.number_runs.specs.Statements.{are_statements, behind_stored, is_line, is_narrowed, is_statement, is_stored}
-use Rattle.number_runs.specs.Statements.{is_pointed, pointer_sets, statement_needs}
+use Rattle.number_runs.specs.Statements.{is_placed, is_pointed, pointer_sets, statement_needs}
 use Rattle.number_runs.specs.Statements.{statement_sets, statements_need, statements_set, stored_needs, stored_sets}
 use Rattle.number_runs.specs.Statements.{allocation_sets, behind_sets, freeing_sets, is_allocation, is_freeing}
 use Rattle.number_runs.proofs.Arrays.{element_is}
@@ -44,7 +44,7 @@ use Rattle.number_runs.proofs.Based.{allocation_is, freeing_is, through_is}
 use Rattle.number_runs.proofs.Counters.{IsCounting, counting_is, counting_of, statement_is}
 use Rattle.number_runs.proofs.Narrow.{narrow_with_is}
 use Rattle.number_runs.proofs.Unset.{number_unset, test_unset}
-use Rattle.number_runs.proofs.Pointed.{by_pointed, compared_by}
+use Rattle.number_runs.proofs.Pointed.{by_compared, by_pointed}
 use Rattle.number_runs.proofs.Taking.{Fits, Sets, Takes, list_takes, one_more, scalar_takes, sets_either, sets_no_words}
 use Rattle.number_runs.proofs.Taking.{sets_none, sets_signed, sets_two, subscript_takes, takes_either, takes_next}
 use Rattle.number_runs.proofs.Taking.{takes_none, takes_of, through_takes, unlocated_takes, whole_takes}
@@ -97,9 +97,9 @@ compared_taken :
     (s : Scope) (equal : Bool) (left right : Y.Pointer) (t : Taken) → are_compared s left right ≡ true →
     Sets 0 compared_sets t (bit_takes t (Y.PointersCompared equal left right))
 compared_taken s equal left right t h =
-    compared_by s (λ l r. Sets 0 compared_sets t (bit_takes t (Y.PointersCompared equal l r)))
-    (λ x. record { registers = omega arith; words = omega arith })
-    (λ x y. record { registers = omega arith; words = omega arith }) left right h
+    by_compared s (λ l r. Sets 0 compared_sets t (bit_takes t (Y.PointersCompared equal l r)))
+    (λ x known. record { registers = omega arith; words = omega arith })
+    (λ x y known other. record { registers = omega arith; words = omega arith }) left right h
 
 -- a number takes no words where calls have no arguments
 unset_taken :
@@ -411,20 +411,22 @@ narrowed_taken words s target (Y.StoredOffset x) h fits = absurd (cc h)
 
 assignment_taken :
     (words : ℕ) (s : Scope) (target : Y.Reference) (source : Y.Stored) →
-    ((is_reference s target && is_stored s source) ≡ true) ⊎ (is_narrowed s target source ≡ true) →
+    ((is_reference s target && (is_placed s target && is_stored s source)) ≡ true)
+    ⊎ (is_narrowed s target source ≡ true) →
     max (stored_needs source) (behind_stored source (reference_needs target)) ≤ held_registers →
     Sets (max (stored_needs source) (behind_stored source (reference_needs target)))
     (max (stored_sets source) (behind_sets source (reference_sets target)))
     (set_aside words) (assigned_takes (set_aside words) target source)
 assignment_taken words s target source (inl h) fits =
-    let b = and_parts (is_reference s target) (is_stored s source) h in
-    let n = behind_number s source (reference_needs target) b.1 in
+    let d = and_parts (is_reference s target) (is_placed s target && is_stored s source) h in
+    let c = and_parts (is_placed s target) (is_stored s source) d.1 in
+    let n = behind_number s source (reference_needs target) c.1 in
     subst (λ i. Sets (max (stored_needs source) (behind_stored source (reference_needs target)))
     (max (stored_sets source) i) (set_aside words) (assigned_takes (set_aside words) target source))
-    (sym (sets_number s source (reference_sets target) b.1))
+    (sym (sets_number s source (reference_sets target) c.1))
     (subst (λ m. Sets (max (stored_needs source) m) (max (stored_sets source) (reference_sets target))
     (set_aside words) (assigned_takes (set_aside words) target source)) (sym n)
-    (assigned_taken words s target source b.0 b.1 (omega (arith, fits, n))))
+    (assigned_taken words s target source d.0 c.1 (omega (arith, fits, n))))
 assignment_taken words s target source (inr h) fits = narrowed_taken words s target source h fits
 
 -- start, limit and step are evaluated while three words are set aside, and the variable is assigned while two are
@@ -561,7 +563,7 @@ mutual
       Sets (statement_needs x) (statement_sets x) (set_aside words) (stmt_takes (set_aside words) x)
   statement_taken words s valued labels (Y.Null line) h fits = sets_none (set_aside words)
   statement_taken words s valued labels (Y.Assign target source line) h fits =
-      let one = is_reference s target && is_stored s source in
+      let one = is_reference s target && (is_placed s target && is_stored s source) in
       let other = is_narrowed s target source in
       let a = and_parts (is_line line) (one || other) h in
       assignment_taken words s target source (or_cases one other a.1) fits

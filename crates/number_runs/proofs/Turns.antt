@@ -15,7 +15,8 @@ use Rattle.activation_relation.specs.Layers.{Layer}
 use Rattle.program_places.specs.Placed.{Placed}
 use Rattle.program_places.proofs.Marks.{placed_back, placed_front}
 use Rattle.program_runs.specs.Statements.{Block, IsBegun, set_aside}
-use Rattle.expression_runs.specs.Values.{in_registers}
+use Rattle.expression_runs.specs.Assignments.{setting_around}
+use Rattle.expression_runs.specs.Values.{Setting, in_registers}
 use Rattle.counter_runs.specs.Counts.{Counting, IsStep, body_index, count_of, turn_in}
 use Rattle.counter_runs.specs.Words.{telling, with_word}
 use Rattle.counter_runs.proofs.Known.{array_told, number_told}
@@ -24,6 +25,7 @@ use Rattle.counter_runs.proofs.Turns.{coded, starts_code}
 use Rattle.counter_runs.proofs.Words.{begun_telling}
 use Rattle.number_runs.specs.Knowledge.{AreStandingWith, HasFrame, IsHome, IsReady, IsFree, KnowsGivenCalls}
 use Rattle.number_runs.specs.Knowledge.{StandingWith, KnowsAroundTexts, KnowsCalls, KnowsRaises, KnowsPuts}
+use Rattle.number_runs.specs.Knowledge.{KnowsPlaced, KnowsReached}
 use Rattle.number_runs.specs.Numbers.{Scope, bounds_known, type_known, without_located}
 use Rattle.number_runs.proofs.Narrow.{narrow_told}
 use Rattle.list_calls.proofs.ParametersPassed.{parameter_told}
@@ -96,12 +98,6 @@ pub telling_same :
 telling_same k φ φs newest =
     ap (λ ls. record k { first = record k.first { control = record k.first.control { layers = ls } } }) (sym newest)
 
--- where nothing is located as much is known
-puts_bare : {s : Scope} {k : Block} {most : ℕ} → s.locates ≡ false → KnowsPuts (without_located s) k most →
-    KnowsPuts s k most
-puts_bare {s} none h =
-    record { numbers = h.numbers; error = h.error; lists = h.lists; located = λ may. absurd (cc (sym none ∙ may)) }
-
 pub ready_told :
     {s : Scope} {valued : Bool} {k : Block} {labels : List Label} {most left' : ℕ}
     (r : IsReady s valued k labels most left') (c : s.counts ≡ true) → s.locates ≡ false → (waits : ℕ → Option ℕ)
@@ -122,11 +118,12 @@ ready_told {s} {k = k} r c none waits behind free =
       parameters = λ x is. parameter_told k l.layer l.others waits l.newest x (r.parameters x is);
       codes = r.codes;
       calls = l.calls waits;
+      reached = l.reached waits;
       based = λ may. absurd (cc (sym none ∙ may));
       jumps = l.jumps waits;
       texts = l.texts waits;
       signals = l.signals waits;
-      puts = λ may. puts_bare none (l.puts waits may);
+      puts = l.puts waits;
       loops = λ c'. record {
         layer = with_waits waits l.layer;
         others = l.others;
@@ -184,9 +181,16 @@ given_unlocated :
     KnowsGivenCalls s k layer others own most left' → KnowsGivenCalls (without_located s) k layer others own most left'
 given_unlocated h = record { passable = h.passable; functions = h.functions; procedures = h.procedures }
 
+placed_unlocated :
+    {s : Scope} {k : Block} {most : ℕ} → KnowsPlaced s k most → KnowsPlaced (without_located s) k most
+placed_unlocated h = record { pointers = h.pointers; reads = h.reads }
+
 puts_unlocated : {s : Scope} {k : Block} {most : ℕ} → KnowsPuts s k most → KnowsPuts (without_located s) k most
 puts_unlocated h =
-    record { numbers = h.numbers; error = h.error; lists = h.lists; located = λ may. absurd (cc may) }
+    record { numbers = h.numbers; error = h.error; lists = h.lists; located = placed_unlocated h.located }
+
+reached_unlocated : (s : Scope) (k : Setting) → KnowsReached s k → KnowsReached (without_located s) k
+reached_unlocated s k h = record { pointers = h.pointers; reads = h.reads }
 
 home_unlocated :
     {s : Scope} {valued : Bool} {k : Block} {left' : ℕ} → IsHome s valued k left' →
@@ -198,7 +202,7 @@ home_unlocated h =
 pub ready_unlocated :
     {s : Scope} {valued : Bool} {k : Block} {labels : List Label} {most left' : ℕ} →
     IsReady s valued k labels most left' → IsReady (without_located s) valued k labels most left'
-ready_unlocated r =
+ready_unlocated {s} {k = k} {most = most} r =
     record {
       begun = r.begun;
       acts = r.acts;
@@ -211,6 +215,8 @@ ready_unlocated r =
       parameters = r.parameters;
       codes = r.codes;
       calls = calls_unlocated r.calls;
+      reached = λ words less inner line includes.
+          reached_unlocated s (setting_around words k inner line most) (r.reached words less inner line includes);
       based = λ may. absurd (cc may);
       jumps = r.jumps;
       signals = r.signals;
@@ -229,8 +235,10 @@ ready_unlocated r =
         jumps = l.jumps;
         signals = l.signals;
         texts = λ waits may'. around_unlocated (l.texts waits may');
-        reached = λ waits may'. absurd (cc may');
-        puts = λ waits may'. l.puts waits may';
+        reached = λ waits words less inner line includes.
+            reached_unlocated s (setting_around words (telling waits l.layer l.others k) inner line most)
+            (l.reached waits words less inner line includes);
+        puts = λ waits may'. puts_unlocated (l.puts waits may');
       };
       room = r.room;
       home = λ may. home_unlocated (r.home may);

@@ -16,7 +16,7 @@ use Rattle.number_runs.specs.Narrow.{has_precision, is_bit, is_text_type}
 use Rattle.number_runs.specs.Numbers.{Scope, are_arguments, gives_lists, is_fixed, is_number, is_reference, is_test}
 use Rattle.number_runs.specs.Numbers.{is_narrow_with, reference_sets, is_text, without_given, IsBare, without_located}
 use Rattle.number_runs.specs.Statements.{are_statements, is_line, is_statement, is_stored, statement_needs}
-use Rattle.number_runs.specs.Statements.{behind_sets, is_allocation, is_freeing}
+use Rattle.number_runs.specs.Statements.{behind_sets, is_allocation, is_freeing, is_placed}
 use Rattle.number_runs.specs.Statements.{is_narrowed, statement_sets, statements_need, statements_set, stored_sets}
 use Rattle.number_runs.specs.Variables.{are_plain}
 use Rattle.number_runs.specs.Puts.{are_pairs, are_put_items, are_shown, is_list, is_put, is_put_item, is_put_list}
@@ -24,8 +24,8 @@ use Rattle.number_runs.specs.Puts.{is_skip, put_item_sets, put_items_set, put_se
 use Rattle.number_runs.proofs.Taking.{Takes}
 use Rattle.number_runs.proofs.Takes.{statement_taken, statements_taken}
 use Rattle.number_runs.proofs.BlocksTaken.{block_sets, plain_known}
-use Rattle.number_runs.proofs.Based.{allocation_is, freeing_is}
-use Rattle.number_runs.proofs.Pointed.{pointed_may}
+use Rattle.number_runs.proofs.Based.{allocation_is, freeing_is, none_pointing}
+use Rattle.number_runs.proofs.Pointed.{none_pointed}
 use Rattle.number_runs.proofs.Variables.{sets_number}
 use Rattle.number_runs.proofs.Unset.{narrow_unset, number_unset, reference_unset, test_unset}
 
@@ -58,18 +58,20 @@ narrowed_unset s target (Y.StoredText x) none h =
     let n = narrow_unset s is_text_type target (and_parts narrow one (and_parts s.texts (narrow && one) h).1).0 in
     omega (arith, n)
 narrowed_unset s target (Y.StoredPointer x) none h =
-    absurd (cc (sym none.1 ∙ pointed_may s target x h))
+    absurd (none_pointed s target x none.1 h)
 narrowed_unset s target (Y.StoredOffset x) none h = absurd (cc h)
 
 assigned_unset :
     (s : Scope) (target : Y.Reference) (source : Y.Stored) → IsBare s →
-    ((is_reference s target && is_stored s source) ≡ true) ⊎ (is_narrowed s target source ≡ true) →
+    ((is_reference s target && (is_placed s target && is_stored s source)) ≡ true)
+    ⊎ (is_narrowed s target source ≡ true) →
     max (stored_sets source) (behind_sets source (reference_sets target)) ≡ 0
 assigned_unset s target source none (inl h) =
-    let b = and_parts (is_reference s target) (is_stored s source) h in
-    let m = reference_unset s target none b.0 in
-    let n = stored_unset s source none b.1 in
-    let e = sets_number s source (reference_sets target) b.1 in
+    let d = and_parts (is_reference s target) (is_placed s target && is_stored s source) h in
+    let c = and_parts (is_placed s target) (is_stored s source) d.1 in
+    let m = reference_unset s target none d.0 in
+    let n = stored_unset s source none c.1 in
+    let e = sets_number s source (reference_sets target) c.1 in
     omega (arith, m, n, e)
 assigned_unset s target source none (inr h) = narrowed_unset s target source none h
 
@@ -161,16 +163,18 @@ mutual
   statement_uncounted s valued labels (Y.Revert condition line) none h = refl
   statement_uncounted s valued labels (Y.Allocate all line) none h =
       let a = and_parts (is_line line) (is_allocation s all) h in
-      absurd (cc (sym none.1.1 ∙ (allocation_is s all a.1).may))
+      let x = allocation_is s all a.1 in
+      absurd (none_pointing s x.pointer none.1.1 x.known)
   statement_uncounted s valued labels (Y.Free all line) none h =
       let a = and_parts (is_line line) (is_freeing s all) h in
-      absurd (cc (sym none.1.1 ∙ (freeing_is s all a.1).may))
+      let x = freeing_is s all a.1 in
+      absurd (none_pointing s x.pointer none.1.1 x.known)
   statement_uncounted s valued labels (Y.Get skip pairs line) none h = refl
   statement_uncounted s valued labels (Y.Put skip pairs line) none h =
       put_unset s skip pairs none.1 (and_parts (is_line line) (is_put s skip pairs) h).1
   statement_uncounted s valued labels (Y.Null line) none h = refl
   statement_uncounted s valued labels (Y.Assign target source line) none h =
-      let one = is_reference s target && is_stored s source in
+      let one = is_reference s target && (is_placed s target && is_stored s source) in
       let other = is_narrowed s target source in
       let a = and_parts (is_line line) (one || other) h in
       assigned_unset s target source none.1 (or_cases one other a.1)

@@ -10,9 +10,9 @@ use Rattle.number_runs.specs.Numbers.{is_test, may_calculate, number_sets, numbe
 use Rattle.number_runs.specs.Numbers.{is_narrow_with, is_wider, IsBare}
 use Rattle.number_runs.specs.Narrow.{is_number_type}
 use Rattle.number_runs.specs.Based.{is_word_type}
-use Rattle.number_runs.proofs.Based.{through_is}
+use Rattle.number_runs.proofs.Based.{none_pointing, through_is}
 use Rattle.number_runs.proofs.Narrow.{narrow_with_is}
-use Rattle.number_runs.proofs.Pointed.{compared_may}
+use Rattle.number_runs.proofs.Pointed.{none_compared}
 
 call_unset :
     (s : Scope) (c : Y.Call) → IsBare s → is_number s (Y.NumberFrom c) ≡ true → call_sets c ≡ 0
@@ -93,7 +93,7 @@ mutual
   reference_unset s (Y.Referring v Y.NotLocated part (Y.NumberThen first (Y.NumberThen second rest))) none h =
       absurd (cc h)
   reference_unset s (Y.Referring v (Y.LocatedBy p) part Y.NoNumber) none h =
-      absurd (cc (sym none.1 ∙ (through_is s is_word_type v p part h).may))
+      let w = through_is s is_word_type v p part h in absurd (none_pointing s w.pointer none.1 w.known)
   reference_unset s (Y.Referring v (Y.LocatedBy p) part (Y.NumberThen first rest)) none h = absurd (cc h)
 
   numbers_unset :
@@ -128,5 +128,5 @@ mutual
   test_unset s (Y.BitOfText x) none h = refl
   test_unset s (Y.TextsCompared comparison left right) none h = refl
   test_unset s (Y.PointersCompared equal left right) none h =
-      absurd (cc (sym none.1 ∙ compared_may s left right h))
+      absurd (none_compared s left right none.1 h)
   test_unset s (Y.OffsetsCompared equal left right) none h = refl

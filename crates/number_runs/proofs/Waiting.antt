@@ -18,6 +18,7 @@ use Rattle.text_values.proofs.Known.{constant_waits}
 use Rattle.number_runs.specs.Knowledge.{KnowsNumbers, KnowsTexts, KnowsWaiting}
 use Rattle.number_runs.specs.Numbers.{Scope, bounds_known, type_known, without_given, IsBare, without_located}
 use Rattle.std.proofs.lemmas.Bool.{and_parts}
+use Rattle.number_runs.proofs.Based.{none_pointing}
 
 pub known_waits :
     (k : Block) (entries : List Entry) (x : Spot) (d : Y.DeclaredVariable) → IsKnown k x d →
@@ -116,8 +117,8 @@ numbers_wait {s} {k} entries none h t =
       functions = w.functions;
       texts = λ may. texts_wait entries t;
       given = λ may. absurd (cc (sym none.0 ∙ (and_parts s.gives s.counts may).0));
-      pointers = λ may. absurd (cc (sym none.1 ∙ may));
-      located = λ may. absurd (cc (sym none.1 ∙ may));
+      pointers = λ x known. absurd (none_pointing s x none.1 known);
+      located = λ p n m known declared. absurd (none_pointing s p none.1 known);
     }
 
 -- where calls have no arguments as much is known
@@ -154,8 +155,8 @@ numbers_without h =
       functions = h.functions;
       texts = λ may. texts_without (h.texts may);
       given = λ may. absurd (cc may);
-      pointers = λ may. absurd (cc may);
-      located = λ may. absurd (cc may);
+      pointers = λ x known. absurd (cc known);
+      located = λ p n m known declared. absurd (cc known);
     }
 
 -- and where nothing that is BASED is reached

@@ -58,7 +58,7 @@ use Rattle.scalar_runs.specs.Scalars.{IsScalar}
 use Rattle.number_runs.specs.Numbers.{Scope, bounds_known, is_array_known, is_known, is_narrow_known, is_received}
 use Rattle.number_runs.specs.Based.{is_pointer_type, is_word_type}
 use Rattle.number_runs.specs.Numbers.{gives_lists, type_known, is_area_known, is_based_known, is_pointer_known}
-use Rattle.number_runs.specs.Numbers.{is_member_known, without_located}
+use Rattle.number_runs.specs.Numbers.{is_member_known}
 use Rattle.number_runs.specs.Puts.{without_calls, is_list}
 
 -- ---- around expressions
@@ -154,7 +154,7 @@ pub record KnowsGiven (s : Scope) (k : Setting) : Type 0 where
       s.texts ≡ true → (words : ℕ) → words ≤ most_set → (waits : ℕ → Option ℕ) →
       KnowsTexts s (setting_told k words waits layer others)
   pub reached :
-      s.locates ≡ true → (words : ℕ) → words ≤ most_set → (waits : ℕ → Option ℕ) →
+      (words : ℕ) → words ≤ most_set → (waits : ℕ → Option ℕ) →
       KnowsReached s (setting_told k words waits layer others)
   pub given :
       (words : ℕ) (waits : ℕ → Option ℕ) (level n need : ℕ) (ways : List Way) → 0 < length ways →
@@ -178,10 +178,10 @@ pub record KnowsNumbers (s : Scope) (k : Setting) : Type 0 where
   pub functions : (level n : ℕ) → s.is_function level n ≡ true → L.Does k 0 (call_number level n)
   pub texts : s.texts ≡ true → KnowsTexts s k
   pub given : gives_lists s ≡ true → KnowsGiven s k
-  pub pointers : s.locates ≡ true → (x : Spot) → is_pointer_known s x ≡ true → IsPointer k.block x
+  pub pointers : (x : Spot) → is_pointer_known s x ≡ true → IsPointer k.block x
   pub located :
-      s.locates ≡ true → (p n : Spot) (m : ℕ) → is_pointer_known s p ≡ true →
-      is_member_known s is_word_type n m ≡ true → L.Does k 0 (Y.NumberIn (member_of p n m))
+      (p n : Spot) (m : ℕ) → is_pointer_known s p ≡ true → is_member_known s is_word_type n m ≡ true →
+      L.Does k 0 (Y.NumberIn (member_of p n m))
   pub codes : s.codes ≡ true → HasCode k.block
 
 -- so many words are left for lists behind those that are set aside
@@ -276,7 +276,7 @@ pub record KnowsPuts (s : Scope) (k : Block) (most : ℕ) : Type 0 where
       (words : ℕ) → MayBeSet s words → (place : EditPlace) (labels : List Label) (line : ℕ) →
       ErrorComes (List ℕ) (within place (setting_around words k labels line most))
   pub lists : KnowsLists k
-  pub located : s.locates ≡ true → KnowsPlaced s k most
+  pub located : KnowsPlaced s k most
 
 -- raises in its statements come to what they mean, also where a unit goes on at a label of the block's own list
 pub record KnowsRaises (s : Scope) (k : Block) (own : List Label) (most : ℕ) : Type 0 where
@@ -337,14 +337,10 @@ pub record KnowsAroundTexts (s : Scope) (k : Block) (own : List Label) (most : �
       (words : ℕ) → MayBeSet s words → (line : ℕ) (entries : List Entry) →
       KnowsWaiting s (setting_around words (waiting entries k) [] line most)
 
--- pointers are known, what is BASED is read and assigned by them, a member that is one is followed and linked, what is
+-- pointers are known, what is BASED is assigned by them, a member that is one is followed and linked, what is
 -- BASED is allocated and freed, and areas are assigned, as all of these mean, where no words are set aside
 pub record KnowsBased (s : Scope) (k : Block) (own : List Label) (most left' : ℕ) : Type 0 where
   pub pointers : (x : Spot) → is_pointer_known s x ≡ true → IsPointer k x
-  pub reads :
-      (labels : List Label) (line : ℕ) (p n : Spot) (m : ℕ) → Includes own labels → is_pointer_known s p ≡ true →
-      is_member_known s is_word_type n m ≡ true →
-      L.Does (setting_around 0 k labels line most) 0 (Y.NumberIn (member_of p n m))
   pub assigned :
       (labels : List Label) (p n : Spot) (m : ℕ) (source : Y.Number) (line index need : ℕ) → Includes own labels →
       is_pointer_known s p ≡ true → is_member_known s is_word_type n m ≡ true → line < 2 ^ 31 →
@@ -436,11 +432,9 @@ pub record KnowsLoops (s : Scope) (k : Block) (own : List Label) (most left' : �
   pub texts : (waits : ℕ → Option ℕ) → s.texts ≡ true → KnowsAroundTexts s (telling waits layer others k) own most
   pub signals : (waits : ℕ → Option ℕ) → KnowsSignals s (telling waits layer others k) own left'
   pub reached :
-      (waits : ℕ → Option ℕ) → s.locates ≡ true → (words : ℕ) → words ≤ most_set → (labels : List Label) (line : ℕ) →
-      Includes own labels → KnowsReached s (setting_around words (telling waits layer others k) labels line most)
-  -- there nothing that is BASED is written
-  pub puts :
-      (waits : ℕ → Option ℕ) → s.puts ≡ true → KnowsPuts (without_located s) (telling waits layer others k) most
+      (waits : ℕ → Option ℕ) (words : ℕ) → words ≤ most_set → (labels : List Label) (line : ℕ) → Includes own labels →
+      KnowsReached s (setting_around words (telling waits layer others k) labels line most)
+  pub puts : (waits : ℕ → Option ℕ) → s.puts ≡ true → KnowsPuts s (telling waits layer others k) most
 
 -- a block whose own list has these labels
 pub record IsReady (s : Scope) (valued : Bool) (k : Block) (labels : List Label) (most left' : ℕ) : Type 0 where
@@ -456,6 +450,9 @@ pub record IsReady (s : Scope) (valued : Bool) (k : Block) (labels : List Label)
   pub parameters : (x : Spot) → is_received s x ≡ true → IsParameter k x
   pub codes : s.codes ≡ true → HasCode k
   pub calls : KnowsCalls s k labels most left'
+  pub reached :
+      (words : ℕ) → words ≤ most_set → (inner : List Label) (line : ℕ) → Includes labels inner →
+      KnowsReached s (setting_around words k inner line most)
   pub based : s.locates ≡ true → KnowsBased s k labels most left'
   pub jumps : KnowsJumps s k labels left'
   pub texts : s.texts ≡ true → KnowsAroundTexts s k labels most

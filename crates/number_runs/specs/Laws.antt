@@ -69,7 +69,7 @@ pub record BodiesDo : Type 0 where
       (s.elements ≡ true → (x : Spot) → is_array_known s x ≡ true → IsArray k x (bounds_known s x)) →
       (s.narrows ≡ true → (x : Spot) → is_narrow_known s x ≡ true → IsScalar k x (type_known s x)) →
       ((x : Spot) → is_received s x ≡ true → IsParameter k x) → (s.codes ≡ true → HasCode k) →
-      (s.texts ≡ true → KnowsConstants k) → KnowsLists k → (s.locates ≡ true → KnowsPlaced s k most) →
+      (s.texts ≡ true → KnowsConstants k) → KnowsLists k → KnowsPlaced s k most →
       KnowsPuts s k most
   -- and texts may wait, if functions are called above them
   pub texts :

@@ -36,7 +36,7 @@ pub record Scope : Type 0 where
   pub gives : Bool
   pub is_given_function : (count level number : ℕ) → Bool
   pub is_given_procedure : (count level number : ℕ) → Bool
-  -- whether they may reach what is BASED, and the blocks whose pointers and areas they may name
+  -- whether statements may assign by pointers, allocate and free, and the blocks whose pointers and areas they may name
   pub locates : Bool
   pub pointers : List BlockPlace
   -- whether its loops may count
@@ -226,9 +226,8 @@ is_based_variable s v = is_based_class v.class && is_based_known s (spot_of v)
 -- a member of what one leads to
 abbrev pub is_located : Scope → (Y.LeafType → Bool) → Y.Variable → Y.Pointer → Y.Part → Bool
 is_located s test v (Y.PointerIn r) part =
-    s.locates
-    && (is_based_class v.class
-    && ((part.count == 1) && (is_member_known s test (spot_of v) part.first && is_pointer_in s r)))
+    is_based_class v.class
+    && ((part.count == 1) && (is_member_known s test (spot_of v) part.first && is_pointer_in s r))
 is_located s test v _ part = false
 
 -- that is a pointer
@@ -238,8 +237,8 @@ is_followed s _ = false
 
 -- two pointers, or one and NULL
 abbrev pub are_compared : Scope → (left right : Y.Pointer) → Bool
-are_compared s (Y.PointerIn x) Y.NullPointer = s.locates && is_pointer_in s x
-are_compared s (Y.PointerIn x) (Y.PointerIn y) = s.locates && (is_pointer_in s x && is_pointer_in s y)
+are_compared s (Y.PointerIn x) Y.NullPointer = is_pointer_in s x
+are_compared s (Y.PointerIn x) (Y.PointerIn y) = is_pointer_in s x && is_pointer_in s y
 are_compared s left right = false
 
 -- ---- numbers
@@ -248,16 +247,16 @@ are_compared s left right = false
 abbrev pub gives_lists : Scope → Bool
 gives_lists s = s.gives && s.counts
 
--- where words of the frame are set aside nothing that is BASED is reached
+-- where words of the frame are set aside what is BASED is read alone
 abbrev pub without_located : Scope → Scope
 without_located s = record s { locates = false }
 
 -- while texts wait calls have no arguments, either
 abbrev pub without_given : Scope → Scope
-without_given s = record s { gives = false; locates = false }
+without_given s = record s { gives = false; locates = false; pointers = [] }
 
 abbrev pub IsBare : Scope → Type 0
-IsBare s = (s.gives ≡ false) × (s.locates ≡ false)
+IsBare s = (s.gives ≡ false) × (s.pointers ≡ [])
 
 -- of FIXED BINARY
 abbrev pub is_precision : ℕ → Bool

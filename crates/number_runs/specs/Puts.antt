@@ -46,7 +46,7 @@ without_functions s = record s { is_function = λ level n. false; gives = false 
 
 -- and a text reaches nothing that is BASED
 abbrev pub without_calls : Scope → Scope
-without_calls s = record s { is_function = λ level n. false; gives = false; locates = false }
+without_calls s = record s { is_function = λ level n. false; gives = false; locates = false; pointers = [] }
 
 abbrev pub is_put_item : Scope → Y.PutItem → Bool
 is_put_item s (Y.PutValue (Y.NumberValue precision x)) = is_number (without_functions s) x

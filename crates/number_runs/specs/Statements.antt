@@ -23,6 +23,11 @@ abbrev pub is_stored : Scope → Y.Stored → Bool
 is_stored s (Y.StoredNumber precision x) = (precision == 31) && is_number s x
 is_stored s _ = false
 
+-- what a pointer leads to is assigned where words may be taken
+abbrev pub is_placed : Scope → Y.Reference → Bool
+is_placed s (Y.Referring v (Y.LocatedBy p) part subscripts) = s.locates
+is_placed s (Y.Referring v Y.NotLocated part subscripts) = true
+
 -- NULL, all of a pointer or a member on its way into a pointer, or NULL or a pointer into such a member: there the name
 -- waits
 abbrev pub is_pointed : Scope → Y.Reference → Y.Pointer → Bool
@@ -99,7 +104,8 @@ abbrev mutual
   pub is_statement : Scope → (valued : Bool) → List Label → Y.Stmt → Bool
   is_statement s valued labels (Y.Null line) = is_line line
   is_statement s valued labels (Y.Assign target source line) =
-      is_line line && ((is_reference s target && is_stored s source) || is_narrowed s target source)
+      is_line line
+      && ((is_reference s target && (is_placed s target && is_stored s source)) || is_narrowed s target source)
   is_statement s valued labels (Y.If condition unit line) =
       is_line line && (is_test s condition && is_statement s valued labels unit)
   is_statement s valued labels (Y.IfElse condition unit otherwise line) =

@@ -104,6 +104,8 @@ ready m h ih more blocks c o os a own few clear home knows told =
       narrows = λ may. a.narrows;
       parameters = λ x is. absurd (cc is);
       codes = λ may. a.code;
+      reached = λ words less inner line includes.
+          record { pointers = λ x known. absurd (cc known); reads = λ p n i known declared. absurd (cc known) };
       based = λ may. absurd (cc may);
       calls = knows.calls;
       jumps = knows.jumps;
@@ -123,7 +125,8 @@ ready m h ih more blocks c o os a own few clear home knows told =
         jumps = λ waits. (told waits).jumps;
         texts = λ waits may. absurd (cc may);
         signals = λ waits. (told waits).signals;
-        reached = λ waits may'. absurd (cc may');
+        reached = λ waits words less inner line includes.
+            record { pointers = λ x known. absurd (cc known); reads = λ p n i known declared. absurd (cc known) };
         puts = λ waits. (told waits).puts;
       };
       room = omega arith;

@@ -28,6 +28,7 @@ use Rattle.block_headlines.proofs.Constants.{main_of_program}
 use Rattle.number_runs.specs.Knowledge.{KnowsLists, KnowsPuts}
 use Rattle.number_runs.specs.Numbers.{Scope, bounds_known, is_array_known, is_known, is_narrow_known, is_received}
 use Rattle.number_runs.specs.Numbers.{type_known}
+use Rattle.number_runs.proofs.Based.{none_pointing}
 use Rattle.number_runs.proofs.Puts.{narrow_placed}
 use Rattle.number_runs.proofs.Received.{parameter_placed}
 use Rattle.argument_runs.specs.Parameters.{IsParameter}
@@ -94,7 +95,7 @@ pub record IsSettled (s : Scope) (k : Block) (most : ℕ) : Type 0 where
   -- without texts
   pub wordless : s.texts ≡ false
   -- and what is BASED
-  pub unlocated : s.locates ≡ false
+  pub unlocated : s.pointers ≡ []
   pub lists : KnowsLists k
 
 -- there numbers may be written
@@ -133,8 +134,8 @@ settled_writes s k most h =
             parameters = λ x is. parameter_placed k place x (h.parameters x is);
             texts = λ may. absurd (cc (sym h.wordless ∙ may));
             given = λ may. absurd (cc may);
-            pointers = λ may. absurd (cc may);
-            located = λ may. absurd (cc may);
+            pointers = λ x known. absurd (cc known);
+            located = λ p n m known declared. absurd (cc known);
             codes = λ may. h.code;
             functions = λ level n is. absurd (cc is);
           };
@@ -147,5 +148,8 @@ settled_writes s k most h =
             most = omega (arith, few);
           });
       lists = h.lists;
-      located = λ may. absurd (cc (sym h.unlocated ∙ may));
+      located = record {
+        pointers = λ place x known. absurd (none_pointing s x h.unlocated known);
+        reads = λ words place labels line p n m known declared. absurd (none_pointing s p h.unlocated known);
+      };
     }

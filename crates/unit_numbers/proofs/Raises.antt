@@ -382,8 +382,8 @@ free_puts once {program} m h ih more blocks c o os a each above =
             parameters = λ x is. absurd (cc is);
             texts = λ may'. absurd (cc may');
             given = λ may'. absurd (cc may');
-            pointers = λ may'. absurd (cc may');
-            located = λ may'. absurd (cc may');
+            pointers = λ x known. absurd (cc known);
+            located = λ p n i known declared. absurd (cc known);
             codes = λ may'. a'.code;
             functions = λ level n is. absurd (cc is);
           };
@@ -395,7 +395,10 @@ free_puts once {program} m h ih more blocks c o os a each above =
           error_at (List ℕ) once m h ih more blocks c o' os a' each [] (rises_above m h (block_of m h o' os) [] above)
           words [] (λ label e. e) line routines);
       lists = lists_known program k m.memory a.told;
-      located = λ may'. absurd (cc may');
+      located = record {
+        pointers = λ place x known. absurd (cc known);
+        reads = λ words place labels line p n i known declared. absurd (cc known);
+      };
     }
 
 puts_of :
