@@ -30,8 +30,8 @@ use Rattle.argument_runs.specs.Parameters.{parameter, parameter_declared}
 use Rattle.area_runs.specs.Based.{based_of, pointer_declared}
 use Rattle.member_runs.specs.Members.{member_of, structure_declared}
 use Rattle.pli_headline.specs.Headline.{FitsMemory, parts}
-use Rattle.number_headlines.specs.PairRows.{area_declared, first_spot, next_member, number_spot, other_spot, pair_body}
-use Rattle.number_headlines.specs.PairRows.{pair_formats, pair_head, pair_leaves, pair_main, pair_members}
+use Rattle.number_headlines.specs.PairRows.{area_declared, count_spot, first_spot, next_member, number_spot, other_spot}
+use Rattle.number_headlines.specs.PairRows.{pair_body, pair_formats, pair_head, pair_leaves, pair_main, pair_members}
 use Rattle.number_headlines.specs.PairRows.{pair_program, pair_spot, pointer_spot, second_spot, square_body}
 use Rattle.number_headlines.specs.PairRows.{square_function, square_head, square_spot, value_member}
 use Rattle.number_headlines.specs.Headlines.{IsNumberProgram}
@@ -81,6 +81,24 @@ number_scalar = record {
 
 number_number : IsNumberScalar in_main (whole number_spot)
 number_number = record { precision = 31; scalar = number_scalar }
+
+abbrev count_is : Designates in_main (whole count_spot)
+count_is = record {
+  d = number_declared [];
+  declared = record { found = refl; same_class = refl; block_around = inl (refl, refl) };
+  dimensions = 0;
+  member = record { place = 0; dimensions_are = refl; part_is = refl; some = omega arith; within = omega arith };
+  subscripted = inl refl;
+}
+
+count_scalar : IsScalar in_main (Y.FixedLeaf 31) (whole count_spot)
+count_scalar = record {
+  designates = count_is;
+  leaf = number_leaf [];
+  one = record { one = refl; leaf_is = refl };
+  type_is = refl;
+  many = refl;
+}
 
 abbrev pointer_is : Designates in_main (whole pointer_spot)
 pointer_is = record {
@@ -193,6 +211,9 @@ other_next_scalar = record {
 
 value_number : IsNumberScalar in_main (member_of pointer_spot pair_spot value_member)
 value_number = record { precision = 31; scalar = pointer_value_scalar }
+
+other_value_number : IsNumberScalar in_main (member_of other_spot pair_spot value_member)
+other_value_number = record { precision = 31; scalar = other_value_scalar }
 
 based_class : IsOfClass in_main Y.BasedClass (based_of pair_spot)
 based_class = record {
@@ -314,6 +335,35 @@ pair_sound = record {
                 ),
                 (
                   (
+                    (
+                      (count_scalar, (count_is, (tt, (tt, tt)))),
+                      (((omega arith, omega arith), omega arith), (omega arith, omega arith)),
+                    ),
+                    (
+                      tt,
+                      (
+                        (
+                          (
+                            record { type = Y.FixedLeaf 31; scalar = number_scalar; fits = refl },
+                            (
+                              number_sound,
+                              (
+                                (
+                                  (omega arith, omega arith),
+                                  ((number_number, number_sound), (other_value_number, other_value_sound)),
+                                ),
+                                omega arith,
+                              ),
+                            ),
+                          ),
+                          tt,
+                        ),
+                        omega arith,
+                      ),
+                    ),
+                  ),
+                  (
+                  (
                     ((pointer_scalar, pointer_sound), tt),
                     (
                       (
@@ -386,6 +436,7 @@ pair_sound = record {
                     ),
                   ),
                 ),
+                ),
               ),
             ),
           ),
@@ -393,7 +444,7 @@ pair_sound = record {
       ),
     ),
   );
-  labels = (tt, (tt, (tt, (tt, (tt, (tt, (tt, (tt, ((tt, (tt, tt)), (tt, (tt, tt)))))))))));
+  labels = (tt, (tt, (tt, (tt, (tt, (tt, (tt, (tt, ((tt, tt), ((tt, (tt, tt)), (tt, (tt, tt))))))))))));
   parameters = tt;
   apart = tt;
   result = tt;
@@ -550,7 +601,7 @@ pair_declares (suc zero) around e = (
   store_sound _ 0,
   (
     store_sound _ 1,
-    (name_sound _ 2, (name_sound _ 3, (pair_declared_sound _ 4, (plain_sound _ 5, tt)))),
+    (name_sound _ 2, (name_sound _ 3, (pair_declared_sound _ 4, (plain_sound _ 5, (plain_sound _ 6, tt))))),
   ),
 )
 pair_declares (suc (suc zero)) around e = (parameter_sound _, tt)
@@ -611,11 +662,12 @@ makings = tt
 
 unfoldable statements : Unit {0}
 unfolding M.statement M.statements M.list M.list_with M.block_variables_made M.entry_act M.block_list M.block_body
+    M.turn_due M.within_limit M.condition_met M.counter_number M.counter_value M.counter_started M.stepped M.limit_of
 statements = tt
 
 pub pair_end :
     (input : List ℕ) →
-    M.meaning pair_program input 24
-    ≡ Some (record { acts = 24; output = 49 ∷ 48 ∷ 54 ∷ 10 ∷ []; raised = []; end = E.Finished })
+    M.meaning pair_program input 30
+    ≡ Some (record { acts = 30; output = 57 ∷ 48 ∷ 54 ∷ 10 ∷ []; raised = []; end = E.Finished })
 unfolding M.meaning M.run M.entered M.block_run flows values writings calls placings makings statements
 pair_end input = refl

@@ -1,5 +1,5 @@
--- A worked row: a program of the class that links a structure in one area to one in another, follows the link, and
--- calls a function with what each has.
+-- A worked row: a program of the class that links a structure in one area to one in another, reads one in a loop that
+-- counts, follows the link, and calls a function with what each has.
 use Rattle.std.specs.Prelude.{ℕ, ◌≡◌, List, [], ◌∷◌, Some, None, pos, false, true}
 use Rattle.pli_language.specs.Tree as T
 use Rattle.pli_typing.specs.TypedTree as Y
@@ -12,6 +12,7 @@ use Rattle.expression_runs.specs.Variables.{Spot, number_declared, whole}
 use Rattle.scalar_runs.specs.Scalars.{scalar_declared, scalar_leaf}
 use Rattle.function_runs.specs.Returns.{return_of}
 use Rattle.argument_runs.specs.Parameters.{parameter, parameter_declared}
+use Rattle.counter_runs.specs.Counts.{count_of}
 use Rattle.area_runs.specs.Allocations.{allocation}
 use Rattle.area_runs.specs.Based.{pointer_declared}
 use Rattle.locator_runs.specs.Comparisons.{comparison}
@@ -24,8 +25,9 @@ use Rattle.list_calls.specs.Arguments.{ByValue}
 use Rattle.number_runs.specs.Knowledge.{given_number}
 
 -- SQUARE: PROCEDURE (N) RETURNS(FIXED BINARY(31)); DECLARE N FIXED BINARY(31); RETURN (N * N); END SQUARE;
--- DECLARE (A, B) AREA(128), (P, Q) POINTER, 1 N BASED, 2 NX POINTER, 2 V FIXED BINARY(31), X FIXED BINARY(31);
+-- DECLARE (A, B) AREA(128), (P, Q) POINTER, 1 N BASED, 2 NX POINTER, 2 V FIXED BINARY(31), (X, I) FIXED BINARY(31);
 -- ALLOCATE N SET(P) IN(A); ALLOCATE N SET(Q) IN(B); P->V = 3; Q->V = 4; P->NX = Q; Q->NX = NULL(); X = 0;
+-- DO I = 1 TO 2; X = X + Q->V; END;
 -- DO WHILE (P ^= NULL()); X = X * 10 + SQUARE(P->V); P = P->NX; END; IF P = Q THEN X = 0; PUT EDIT (X) (F(3));
 
 abbrev pub first_spot : Spot
@@ -45,6 +47,9 @@ pair_spot = record { block = 1; level = 0; index = 4 }
 
 abbrev pub number_spot : Spot
 number_spot = record { block = 1; level = 0; index = 5 }
+
+abbrev pub count_spot : Spot
+count_spot = record { block = 1; level = 0; index = 6 }
 
 abbrev pub area_declared : Y.DeclaredVariable
 area_declared = scalar_declared (Y.AreaLeaf (Y.ConstantExtent (pos 128))) []
@@ -86,6 +91,26 @@ pair_turns =
     Y.StmtThen [] (assignment number_spot pair_sum 12)
     (Y.StmtThen [] (following pointer_spot pointer_spot pair_spot next_member 13) (Y.EndOfList []))
 
+abbrev pub pair_added : Y.Stmts
+pair_added =
+    Y.StmtThen []
+    (assignment number_spot
+    (Y.Calculated Y.Sum number_value (Y.NumberIn (member_of other_spot pair_spot value_member))) 11)
+    (Y.EndOfList [])
+
+abbrev pub pair_count : Y.Stmt
+pair_count =
+    count_of (record {
+      counter = whole count_spot;
+      precision = 31;
+      start = Y.NumberConstant 1;
+      limit = Y.NumberConstant 2;
+      step = Y.NumberConstant 1;
+      by = pos 1;
+      body = pair_added;
+      line = 11;
+    })
+
 abbrev pub pair_formats : T.Formats
 pair_formats = T.FormatThen (record { line = 16; column = 18 }) 1 (T.FixedFormat 3) T.NoFormat
 
@@ -96,11 +121,12 @@ pair_put =
 abbrev pub pair_walk : Y.Stmts
 pair_walk =
     Y.StmtThen [] (assignment number_spot (Y.NumberConstant 0) 10)
+    (Y.StmtThen [] pair_count
     (Y.StmtThen [] (Y.DoWhile (comparison false pointer_spot Y.NullPointer) pair_turns 11)
     (Y.StmtThen []
     (Y.If (comparison true pointer_spot (Y.PointerIn (whole other_spot)))
     (assignment number_spot (Y.NumberConstant 0) 15) 15)
-    (Y.StmtThen [] pair_put (Y.EndOfList []))))
+    (Y.StmtThen [] pair_put (Y.EndOfList [])))))
 
 abbrev pub pair_body : Y.Stmts
 pair_body =
@@ -134,15 +160,15 @@ pair_program =
       variables =
           []
           ∷ (area_declared ∷ area_declared ∷ pointer_declared ∷ pointer_declared
-          ∷ structure_declared pair_members pair_leaves ∷ number_declared [] ∷ [])
+          ∷ structure_declared pair_members pair_leaves ∷ number_declared [] ∷ number_declared [] ∷ [])
           ∷ (parameter_declared ∷ []) ∷ [];
       procedures = pair_main ∷ square_function ∷ [];
     }
 
 pub record PairKept : Type 0 where
   pub headline : Headline pair_program (picture_of parts pair_program) (table_of pair_program)
-  -- 106 is written
+  -- 906 is written
   pub ends :
       (input : List ℕ) →
-      meaning pair_program input 24
-      ≡ Some (record { acts = 24; output = 49 ∷ 48 ∷ 54 ∷ 10 ∷ []; raised = []; end = E.Finished })
+      meaning pair_program input 30
+      ≡ Some (record { acts = 30; output = 57 ∷ 48 ∷ 54 ∷ 10 ∷ []; raised = []; end = E.Finished })

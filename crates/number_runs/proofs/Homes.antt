@@ -394,7 +394,8 @@ pub given_does :
     max (stored_needs source) (suc (reference_needs target)) ≤ h.block.registers →
     HasFrame h.ready h.words (max (stored_sets source) (reference_sets target)) →
     Coded h labels (Y.Assign target source line) index
-given_does h labels (Y.Referring v Y.NotLocated part Y.NoNumber) source line index includes is one placed two fits sets =
+given_does h labels (Y.Referring v Y.NotLocated part Y.NoNumber) source line index includes is one placed two fits
+    sets =
     let r = Y.Referring v Y.NotLocated part Y.NoNumber in
     scalar_does h labels r source line index includes is (or_cases (is_variable h.scope r) (is_given h.scope r) one) two
     (omega (arith, fits))
@@ -407,11 +408,12 @@ given_does h labels (Y.Referring v Y.NotLocated part (Y.NumberThen subscript Y.N
 given_does h labels (Y.Referring v Y.NotLocated part (Y.NumberThen first (Y.NumberThen second rest))) source line index
     includes is one placed two fits sets =
     absurd (cc one)
-given_does h labels (Y.Referring v (Y.LocatedBy p) part Y.NoNumber) source line index includes is one placed two fits sets =
+given_does h labels (Y.Referring v (Y.LocatedBy p) part Y.NoNumber) source line index includes is one placed two fits
+    sets =
     located_does h labels v p part source line index includes is one placed two (omega (arith, fits))
     {n = max (stored_sets source) (max 5 0)} (omega arith) sets
-given_does h labels (Y.Referring v (Y.LocatedBy p) part (Y.NumberThen first rest)) source line index includes is one placed two
-    fits sets =
+given_does h labels (Y.Referring v (Y.LocatedBy p) part (Y.NumberThen first rest)) source line index includes is one
+    placed two fits sets =
     absurd (cc one)
 
 pub returned_does :

@@ -159,8 +159,8 @@ pub behind_variables :
     are_plain (variables_of_block program block) ≡ true → Sets need sets none_taken (stmts_take none_taken body) →
     Sets need sets none_taken (block_takes program block body)
 behind_variables s program block need sets body plain x =
-    let n = block_taken (record s { counts = false; gives = false; locates = false; pointers = [] }) false program block empty
-    (refl, (refl, refl)) plain refl (omega arith) in
+    let bare : Scope = record s { counts = false; gives = false; locates = false; pointers = [] } in
+    let n = block_taken bare false program block empty (refl, (refl, refl)) plain refl (omega arith) in
     let p = x.registers in
     let u = x.words in
     let v = n.words in
