@@ -439,8 +439,8 @@ tests_through once {program} m input (suc more) r labels line includes condition
     subst (λ q. Tests (setting_around 0 (in_phase (block_for m input (suc more)) q) labels line (most_for program))
     (test_needs condition) condition) (sym phase.2)
     (test_does s (setting_around 0 (main_past m input (suc more) phase.0) labels line (most_for program)) condition
-    (knows_in z.ready 0 (omega arith, λ none. refl) (λ counts. (z.framed 0 (omega arith) counts).0) (λ may. refl) labels
-    line includes) is (λ may. absurd (cc may)))
+    (knows_in z.ready 0 (omega arith, λ none. refl) (λ counts. (z.framed 0 (omega arith) counts).0) labels line
+    includes) is (λ may. absurd (cc may)))
 
 -- ---- what stands around each of them
 
