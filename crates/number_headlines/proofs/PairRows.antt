@@ -363,79 +363,79 @@ pair_sound = record {
                     ),
                   ),
                   (
-                  (
-                    ((pointer_scalar, pointer_sound), tt),
                     (
+                      ((pointer_scalar, pointer_sound), tt),
                       (
                         (
-                          record { type = Y.FixedLeaf 31; scalar = number_scalar; fits = refl },
                           (
-                            number_sound,
+                            record { type = Y.FixedLeaf 31; scalar = number_scalar; fits = refl },
                             (
+                              number_sound,
                               (
-                                (omega arith, omega arith),
                                 (
-                                  ((number_number, number_sound), omega arith),
+                                  (omega arith, omega arith),
                                   (
-                                    (square_function, refl, tt),
+                                    ((number_number, number_sound), omega arith),
                                     (
-                                      record {
-                                        procedure = square_function;
-                                        is = record {
-                                          found = refl;
-                                          level_is = refl;
-                                          kind = refl;
-                                          own = square_entry;
-                                          holder = main_entry;
-                                          outer = [];
-                                          entry = refl;
-                                          holder_around = inl (refl, refl);
-                                        };
-                                        passed = ((parameter_declared, refl, (taken, refl)), tt);
-                                      },
-                                      (((omega arith, omega arith), (value_number, pointer_value_sound)), tt),
+                                      (square_function, refl, tt),
+                                      (
+                                        record {
+                                          procedure = square_function;
+                                          is = record {
+                                            found = refl;
+                                            level_is = refl;
+                                            kind = refl;
+                                            own = square_entry;
+                                            holder = main_entry;
+                                            outer = [];
+                                            entry = refl;
+                                            holder_around = inl (refl, refl);
+                                          };
+                                          passed = ((parameter_declared, refl, (taken, refl)), tt);
+                                        },
+                                        (((omega arith, omega arith), (value_number, pointer_value_sound)), tt),
+                                      ),
                                     ),
                                   ),
                                 ),
+                                omega arith,
                               ),
-                              omega arith,
                             ),
                           ),
-                        ),
-                        (
                           (
-                            record { type = Y.PointerLeaf; scalar = pointer_scalar; fits = tt },
-                            (pointer_sound, ((pointer_next_scalar, pointer_next_sound), omega arith)),
+                            (
+                              record { type = Y.PointerLeaf; scalar = pointer_scalar; fits = tt },
+                              (pointer_sound, ((pointer_next_scalar, pointer_next_sound), omega arith)),
+                            ),
+                            tt,
                           ),
-                          tt,
-                        ),
-                      ),
-                      omega arith,
-                    ),
-                  ),
-                  (
-                    (
-                      ((pointer_scalar, pointer_sound), (other_scalar, other_sound)),
-                      (
-                        (
-                          record { type = Y.FixedLeaf 31; scalar = number_scalar; fits = refl },
-                          (number_sound, (((omega arith, omega arith), omega arith), omega arith)),
                         ),
                         omega arith,
                       ),
                     ),
                     (
                       (
-                        tt,
+                        ((pointer_scalar, pointer_sound), (other_scalar, other_sound)),
                         (
-                          ((list_sound, (((omega arith, omega arith), (number_number, number_sound)), tt)), tt),
+                          (
+                            record { type = Y.FixedLeaf 31; scalar = number_scalar; fits = refl },
+                            (number_sound, (((omega arith, omega arith), omega arith), omega arith)),
+                          ),
                           omega arith,
                         ),
                       ),
-                      tt,
+                      (
+                        (
+                          tt,
+                          (
+                            ((list_sound, (((omega arith, omega arith), (number_number, number_sound)), tt)), tt),
+                            omega arith,
+                          ),
+                        ),
+                        tt,
+                      ),
                     ),
                   ),
-                ),
                 ),
               ),
             ),
