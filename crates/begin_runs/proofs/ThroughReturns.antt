@@ -1,5 +1,5 @@
 -- RETURN in a begin block does what it means.
-use Rattle.std.proofs.Common.{◌≡◌, ℕ, zero, suc, ◌+◌, ◌≤◌, List, [], ◌∷◌, ◌++◌, inl, inr, length}
+use Rattle.std.proofs.Common.{◌≡◌, ℕ, zero, suc, ◌+◌, ◌<◌, ◌≤◌, List, [], ◌∷◌, ◌++◌, inl, inr, length}
 use Rattle.std.proofs.Common.{Bool, None, Option, true, false, refl, sym, ap, ◌∙◌, subst, arith}
 use Rattle.std.specs.Prelude.{cond, drop, ◌==◌}
 use Rattle.rv_meaning.specs.declared.instr.Instr.{Instr}
@@ -7,7 +7,7 @@ use Rattle.pli_typing.specs.TypedTree as Y
 use Rattle.pli_meaning.specs.BasicValues.{BasicValue}
 use Rattle.pli_meaning.specs.Control.{Label, Meaning, act, returns, ◌>>◌}
 use Rattle.pli_meaning.specs.Executing as M
-use Rattle.pli_meaning.specs.StorageState.{Activation, State}
+use Rattle.pli_meaning.specs.StorageState.{Activation, State, ancestor_at, height_of}
 use Rattle.pli_meaning.specs.World.{counted}
 use Rattle.pli_serving.specs.ServiceState.{Services}
 use Rattle.pli_coding.specs.Allocating.{act_code}
@@ -18,6 +18,7 @@ use Rattle.pli_coding.specs.Statements.{returned_by, stmt_code, unwound_to}
 use Rattle.storage_relation.specs.Served.{Holds}
 use Rattle.storage_relation.proofs.Holders.{eqb-other}
 use Rattle.activation_relation.specs.Chains.{AreActive, UnitPlaces}
+use Rattle.activation_relation.specs.CodeStores.{most_levels}
 use Rattle.activation_relation.specs.Frames.{AreLaid, FramesStand, upper_top}
 use Rattle.activation_relation.specs.Landing.{closed, either, is_begin}
 use Rattle.activation_relation.specs.Layers.{Layer, Point, now, services_of}
@@ -44,7 +45,7 @@ use Rattle.block_runs.specs.Machines.{AreIn, IsImage, IsIn, acted}
 use Rattle.block_runs.proofs.FrameBeginnings.{stack_is}
 use Rattle.block_runs.proofs.Places.{even_top}
 use Rattle.block_runs.proofs.PointActs.{act_comes}
-use Rattle.program_runs.specs.Statements.{Block, Does, HasAct, IsAmong, Outer, ReturnsOut, outer_call, size_in}
+use Rattle.program_runs.specs.Statements.{Block, Does, HasAct, IsAmong, IsBegun, Outer, ReturnsOut, outer_call, size_in}
 use Rattle.program_runs.specs.Statements.{statement_aims}
 use Rattle.program_runs.proofs.Statements.{acted_among}
 use Rattle.begin_runs.specs.ThroughReturns.{AreBegins, IsThrough, Through}
@@ -55,10 +56,10 @@ use Rattle.begin_runs.proofs.Unwinding.{target_ground, unwound_reach}
 
 -- ---- the stack stays where it was, above the procedure's own part
 
-abbrev raised : (top : ℕ) → Layer → Layer
+abbrev pub raised : (top : ℕ) → Layer → Layer
 raised top φ = record φ { top = top }
 
-abbrev with_newest : List Layer → Point → Point
+abbrev pub with_newest : List Layer → Point → Point
 with_newest ls q = record q { control = record q.control { layers = ls } }
 
 raised_places :
@@ -166,7 +167,7 @@ raised_holds q top φ φs m newest h =
 
 -- ---- the procedure's end
 
-abbrev leaving_of : Block → Through → Point → (numbers : ℕ → ℕ) → Leaving
+abbrev pub leaving_of : Block → Through → Point → (numbers : ℕ → ℕ) → Leaving
 leaving_of k x p numbers =
     record {
       block = k;
@@ -178,17 +179,39 @@ leaving_of k x p numbers =
       numbers = numbers;
     }
 
-is_leaving :
-    (k : Block) (x : Through) (left' : ℕ) (p : Point) (numbers : ℕ → ℕ) → IsThrough k x left' → IsAmong k numbers p →
+-- what the end of the begin blocks asks for, whatever is returned
+pub record IsLeft (k : Block) (x : Through) : Type 0 where
+  pub begun : IsBegun k
+  pub there : drop x.behind k.outers ≡ x.outer ∷ x.rest
+  pub inner : x.level < k.call.beginning.layer.level
+  pub few : k.call.beginning.layer.level < most_levels
+  pub found : height_of (ancestor_at k.first.state x.level) ≡ length x.outer.point.state.activations + 1
+  pub registers : k.registers ≤ x.outer.beginning.layer.saved
+  pub numbers : k.call.numbers ≡ x.outer.numbers
+
+left_of : {k : Block} {x : Through} {left' : ℕ} → IsThrough k x left' → IsLeft k x
+left_of h =
+    record {
+      begun = h.begun;
+      there = h.there;
+      inner = h.inner;
+      few = h.few;
+      found = h.found;
+      registers = h.registers;
+      numbers = h.numbers;
+    }
+
+pub is_leaving :
+    (k : Block) (x : Through) (p : Point) (numbers : ℕ → ℕ) → IsLeft k x → IsAmong k numbers p →
     IsLeaving (leaving_of k x p numbers)
-is_leaving k x left' p numbers h o =
+is_leaving k x p numbers h o =
     record { begun = h.begun; among = o; there = h.there; inner = h.inner; few = h.few; found = h.found }
 
 -- its layer, with the stack where it was
-abbrev end_layer : (z : Leaving) → IsLeaving z → Layer
+abbrev pub end_layer : (z : Leaving) → IsLeaving z → Layer
 end_layer z h = raised (upper_top z.block.call.surroundings.parts z.point.control.layers) (layer_of z h)
 
-abbrev end_point : (z : Leaving) → IsLeaving z → Point
+abbrev pub end_point : (z : Leaving) → IsLeaving z → Point
 end_point z h = with_newest (end_layer z h ∷ z.outer.point.control.layers) (left_point z h)
 
 end_stands : (z : Leaving) (h : IsLeaving z) → Stands z.block.call.surroundings (end_point z h)
@@ -215,7 +238,7 @@ end_image z h =
       );
     }
 
-in_end :
+pub in_end :
     (z : Leaving) (h : IsLeaving z) (index : ℕ) (b : Base) (y : Whole) →
     At b index (Known (target_ground (going_of z h) (is_target z h)) (services_of (left_point z h)) z.numbers (λ j. 0)
     nothing b) y →
@@ -250,19 +273,20 @@ in_end z h index b y o =
 none_result : (function : Option _) → function ≡ None → IsResult function None 0
 none_result function e = subst (λ o. IsResult o None 0) (sym e) refl
 
-at_procedure :
+pub at_procedure :
     (k : Block) (x : Through) (left' c : ℕ) (f : Family) (v : Services) {numbers : ℕ → ℕ} {p : Point}
-    (h : IsThrough k x left') (o : IsAmong k numbers p) →
-    Reach k.call.code c f v left'
-    (services_of (end_point (leaving_of k x p numbers) (is_leaving k x left' p numbers h o)))
-    (λ b y. IsIn k.call.surroundings (end_point (leaving_of k x p numbers) (is_leaving k x left' p numbers h o)) numbers
-    x.outer.end b y) →
-    AtEnd (outer_call k.call.surroundings k.call.code x.outer) left' c f v None
-    (end_point (leaving_of k x p numbers) (is_leaving k x left' p numbers h o)).state
-at_procedure k x left' c f v {numbers} {p} h o reach =
+    (r : Option BasicValue) (given : ℕ) (h : IsLeft k x) (o : IsAmong k numbers p) →
+    IsResult x.outer.function r given →
+    Reach k.call.code c f v left' (services_of (end_point (leaving_of k x p numbers) (is_leaving k x p numbers h o)))
+    (λ b y. IsIn k.call.surroundings (end_point (leaving_of k x p numbers) (is_leaving k x p numbers h o)) numbers
+    x.outer.end b y
+    × HasGiven x.outer.beginning.layer (place_in x.outer.function) given y) →
+    AtEnd (outer_call k.call.surroundings k.call.code x.outer) left' c f v r
+    (end_point (leaving_of k x p numbers) (is_leaving k x p numbers h o)).state
+at_procedure k x left' c f v {numbers} {p} r0 given h o result reach =
     let w = k.call.surroundings in
     let z = leaving_of k x p numbers in
-    let is = is_leaving k x left' p numbers h o in
+    let is = is_leaving k x p numbers h o in
     let d = dropped z is in
     let outer = d.is.1 in
     let r = outer.resumes in
@@ -311,17 +335,14 @@ at_procedure k x left' c f v {numbers} {p} h o reach =
       few = few_unwound w p (suc z.behind) (layer_of z is) [] o.few;
       others = λ n up. o.others n (omega (arith, few, up)) ∙ ap (λ (g : ℕ → ℕ). g n) h.numbers;
       state = refl;
-      given = 0;
-      result = none_result x.outer.function h.function;
-      reach = reach_map _ reach (λ b y at. (
-        at,
-        subst (λ g. HasGiven x.outer.beginning.layer (place_in g) 0 y) (sym h.function) refl,
-      ));
+      given = given;
+      result = result;
+      reach = reach;
     }
 
 -- ---- the statement
 
-outs_return :
+pub outs_return :
     (w : Surroundings) (code : List Instr) (os : List Outer) (n : ℕ) (o : Outer) (rest : List Outer) {left' c : ℕ}
     {f : Family} {v : Services} {r : Option BasicValue} (s : State) → drop n os ≡ o ∷ rest → AreBegins n os →
     is_begin o.beginning.layer.kind ≡ false → AtEnd (outer_call w code o) left' c f v r (closed_times n s) →
@@ -369,7 +390,8 @@ through_does k labels x line index left' a h l p numbers c wanted f o paid there
     let o' = acted_among line o less in
     let p' = acted line p in
     let z = leaving_of k x p' numbers in
-    let is = is_leaving k x left' p' numbers h o' in
+    let left = left_of h in
+    let is = is_leaving k x p' numbers left o' in
     let l1 = back_of one (first ++ jump) l' in
     let r1 = unwound_reach (going_of z is) (is_target z is) 0 g (front_of first jump l1) at in
     let r2 = jump_piece (0 + size_of first) (0 + size_of first + 2) (reached r1)
@@ -387,10 +409,13 @@ through_does k labels x line index left' a h l p numbers c wanted f o paid there
             h.begins.1 h.procedure
             (subst (λ s. AtEnd (outer_call w k.call.code x.outer) left' i0 f0 v0 None s)
             (sym (closed_ended (suc x.behind) p'.state))
-            (at_procedure k x left' i0 f0 v0 h o'
-            (subst (λ u. Reach k.call.code i0 f0 v0 left' u (λ b y. IsIn w (end_point z is) numbers x.outer.end b y))
+            (at_procedure k x left' i0 f0 v0 None 0 left o' (none_result x.outer.function h.function)
+            (subst (λ u. Reach k.call.code i0 f0 v0 left' u (λ b y. IsIn w (end_point z is) numbers x.outer.end b y
+            × HasGiven x.outer.beginning.layer (place_in x.outer.function) 0 y))
             services
-            (repaid debt left' (omega (arith, enough)) (reach_map _ r (λ b y q. in_end z is x.outer.end b y q))
-            from)))));
+            (repaid debt left' (omega (arith, enough)) (reach_map _ r (λ b y q. (
+              in_end z is x.outer.end b y q,
+              subst (λ g. HasGiven x.outer.beginning.layer (place_in g) 0 y) (sym h.function) refl,
+            ))) from)))));
       };
     })))

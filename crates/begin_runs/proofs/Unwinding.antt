@@ -36,7 +36,7 @@ use Rattle.run_steps.proofs.Items.{straight}
 use Rattle.run_steps.proofs.Jumps.{back_of, front_of}
 use Rattle.run_steps.proofs.Linking.{size_append}
 use Rattle.run_steps.specs.Reach.{Family, Reach, reached}
-use Rattle.run_steps.proofs.Reach.{reach_then, reached_holds}
+use Rattle.run_steps.proofs.Reach.{reach_map, reach_then, reached_holds}
 use Rattle.run_steps.proofs.Reaching.{reach_moved}
 use Rattle.run_steps.specs.Temporaries.{nothing}
 use Rattle.block_runs.specs.Machines.{AreIn}
@@ -109,7 +109,7 @@ outer_load parts units base level m (x ∷ xs) (ψ ∷ ψs) φ φs active frames
     outer_found units parts base m x xs ψ ψs level active frames (omega (arith, less, level'))
 
 -- the display has the frame
-shown :
+pub shown :
     (k : Going) (h : IsGoing k) (b : Base) (m : List ℕ) → StandsIn k.surroundings k.point b m →
     load 4 m (frame_under k.surroundings.parts k.point.control.layers + (144 + 4 * k.target.level))
     ≡ b.at + k.target.layer.at
@@ -134,20 +134,30 @@ placed k h b m stands =
 
 -- ---- its frame comes into its register
 
-abbrev outer_ground : (k : Going) → IsGoing k → Ground
-outer_ground k h =
+-- what is so of memory beside what the point says, as long as nothing is stored
+abbrev pub Beside : Type 1
+Beside = Base → List ℕ → Type 0
+
+abbrev pub point_with : (k : Going) → IsGoing k → Beside → Ground
+point_with k h P =
+    ground_at (frame_under k.surroundings.parts k.point.control.layers)
+    (upper_top k.surroundings.parts k.point.control.layers) (point_frame h.stands h.image)
+    (λ b m. StandsIn k.surroundings k.point b m × P b m)
+
+abbrev outer_ground : (k : Going) → IsGoing k → Beside → Ground
+outer_ground k h P =
     ground_at k.target.layer.at (upper_top k.surroundings.parts k.point.control.layers) (target_frame k h)
-    (λ b m. StandsIn k.surroundings k.point b m)
+    (λ b m. StandsIn k.surroundings k.point b m × P b m)
 
 frame_goes :
-    (k : Going) (h : IsGoing k) {i : ℕ} (c : ℕ) (f : Family) →
+    (k : Going) (h : IsGoing k) (P : Beside) {i : ℕ} (c : ℕ) (f : Family) →
     Linked k.surroundings.links k.code i (load_word frame_register frame_register (display k.target.level)) →
-    AreIn k.surroundings k.point k.numbers i f →
+    ((b : Base) → At b i (Known (point_with k h P) (services_of k.point) k.numbers (λ n. 0) nothing b) (f b)) →
     Reach k.code c f (services_of k.point)
     (c + size_of (load_word frame_register frame_register (display k.target.level))) (services_of k.point)
     (λ b y. At b (i + size_of (load_word frame_register frame_register (display k.target.level)))
-    (Known (outer_ground k h) (services_of k.point) k.numbers (λ n. 0) nothing b) y)
-frame_goes k h c f l there =
+    (Known (outer_ground k h P) (services_of k.point) k.numbers (λ n. 0) nothing b) y)
+frame_goes k h P c f l there =
     let w = k.surroundings in
     let v = services_of k.point in
     let frame = point_frame h.stands h.image in
@@ -155,14 +165,14 @@ frame_goes k h c f l there =
     let room = frame.room in
     let inner = h.inner in
     let few = h.few in
-    let g = point_ground w k.point frame in
-    let g' = outer_ground k h in
+    let g = point_with k h P in
+    let g' = outer_ground k h P in
     let z = display k.target.level in
     let place = word_in at (144 + 4 * k.target.level) frame (omega arith) (omega (arith, inner, few)) in
     displaced_by (is_immediate z) c f (λ s d. I.Load Load.Word frame_register s d) frame_register z (λ b. b.at + at)
     (Known g v k.numbers (λ n. 0) nothing) (Known g' v k.numbers (λ n. 0) nothing) place.small'
     (λ b. let v' = b.valid.1 in omega (arith, v', room))
-    (λ y u. refl) (λ b. frame_is (known_in {t = λ n. 0} {rs = nothing} frame (there b) tt).holds.body) (omega arith)
+    (λ y u. refl) (λ b. frame_is (there b).holds.body) (omega arith)
     (record {
       does = λ b j y s d o e. (
         at_place b place _ e,
@@ -170,7 +180,7 @@ frame_goes k h c f l there =
           body = record {
             services = o.body.services;
             registers = frame_put g g' b k.numbers y.machine.registers _ o.body.registers refl
-                (shown k h b y.machine.memory o.body.memory);
+                (shown k h b y.machine.memory o.body.memory.0);
             bytes = o.body.bytes;
             memory = o.body.memory;
           };
@@ -180,7 +190,7 @@ frame_goes k h c f l there =
       lost = λ b y u j o. lose_known y 31 u j
           (record { reserved_stay = λ y' u'. refl; known_stay = λ b' y' u' o'. o'; set = λ y' u'. refl }) o;
     })
-    l (λ b. known_in frame (there b) tt)
+    l there
 
 -- ---- the services end the blocks above it
 
@@ -198,15 +208,20 @@ target_ground k h =
     ground_at k.target.layer.at (upper_top k.surroundings.parts k.point.control.layers) (target_frame k h)
     (λ b m. StandsIn k.surroundings (unwound_point k.target k.point) b m)
 
+abbrev pub target_with : (k : Going) → IsGoing k → Beside → Ground
+target_with k h P =
+    ground_at k.target.layer.at (upper_top k.surroundings.parts k.point.control.layers) (target_frame k h)
+    (λ b m. StandsIn k.surroundings (unwound_point k.target k.point) b m × P b m)
+
 services_unwind :
-    (k : Going) (h : IsGoing k) {i : ℕ} (c : ℕ) (f : Family) →
+    (k : Going) (h : IsGoing k) (P : Beside) {i : ℕ} (c : ℕ) (f : Family) →
     Linked k.surroundings.links k.code i (Plain I.Ecall ∷ []) →
-    ((b : Base) → At b i (Known (outer_ground k h) (services_of k.point) k.numbers (λ n. 0)
+    ((b : Base) → At b i (Known (outer_ground k h P) (services_of k.point) k.numbers (λ n. 0)
     (asked_regs k.target.layer.at) b) (f b)) →
     Reach k.code c f (services_of k.point) (c + 1) (services_of (unwound_point k.target k.point))
-    (λ b y. At b (i + 1) (Known (target_ground k h) (services_of (unwound_point k.target k.point)) k.numbers (λ n. 0)
+    (λ b y. At b (i + 1) (Known (target_with k h P) (services_of (unwound_point k.target k.point)) k.numbers (λ n. 0)
     nothing b) y)
-services_unwind k h {i} c f l there =
+services_unwind k h P {i} c f l there =
     let w = k.surroundings in
     let p = k.point in
     let x = k.target in
@@ -229,27 +244,29 @@ services_unwind k h {i} c f l there =
           (KeepsNone x.layer.entries p.control.entries over.0) over.1;
     } in
     call_done c f v v' (λ b. (f b).machine.memory) (λ b. at) (λ b. 0)
-    (λ b. Known (target_ground k h) v' k.numbers (λ n. 0) nothing b) (same_acts k) calling
+    (λ b. Known (target_with k h P) v' k.numbers (λ n. 0) nothing b) (same_acts k) calling
     (λ b. let o = (there b).holds.body in
-    let u = unwound_memory w p b.at (f b).machine.memory x.count x.layer [] (o.memory.storage, o.memory.frames) in
+    let u = unwound_memory w p b.at (f b).machine.memory x.count x.layer []
+    (o.memory.0.storage, o.memory.0.frames) in
     record {
       body = record {
         services = refl;
         registers = o.registers;
         bytes = o.bytes;
-        memory = record { storage = u.0; frames = u.1 };
+        memory = (record { storage = u.0; frames = u.1 }, o.memory.1);
       };
       regs = tt;
     })
 
-pub unwound_reach :
-    (k : Going) (h : IsGoing k) {i : ℕ} (c : ℕ) (f : Family) →
-    Linked k.surroundings.links k.code i (unwound_to k.target.level 0) → AreIn k.surroundings k.point k.numbers i f →
+pub unwound_with :
+    (k : Going) (h : IsGoing k) (P : Beside) {i : ℕ} (c : ℕ) (f : Family) →
+    Linked k.surroundings.links k.code i (unwound_to k.target.level 0) →
+    ((b : Base) → At b i (Known (point_with k h P) (services_of k.point) k.numbers (λ n. 0) nothing b) (f b)) →
     Reach k.code c f (services_of k.point) (c + size_of (unwound_to k.target.level 0))
     (services_of (unwound_point k.target k.point))
-    (λ b y. At b (i + size_of (unwound_to k.target.level 0)) (Known (target_ground k h)
+    (λ b y. At b (i + size_of (unwound_to k.target.level 0)) (Known (target_with k h P)
     (services_of (unwound_point k.target k.point)) k.numbers (λ n. 0) nothing b) y)
-unwound_reach k h c f l there =
+unwound_with k h P c f l there =
     let v = services_of k.point in
     let at = k.target.layer.at in
     let first = load_word frame_register frame_register (display k.target.level) in
@@ -261,14 +278,14 @@ unwound_reach k h c f l there =
     let l3 = back_of ask call l2 in
     let n0 = size_append first (own ++ (ask ++ call)) in
     let n1 = size_append own (ask ++ call) in
-    let r1 = frame_goes k h c f (front_of first (own ++ (ask ++ call)) l) there in
-    let r2 = load_piece {g = outer_ground k h} {rs = nothing} (c + size_of first) (reached r1) a0 own_offset (at + 36)
-    (λ b. at) (word_in at 36 (target_frame k h) refl (omega arith)) (λ b m stands. placed k h b m stands)
+    let r1 = frame_goes k h P c f (front_of first (own ++ (ask ++ call)) l) there in
+    let r2 = load_piece {g = outer_ground k h P} {rs = nothing} (c + size_of first) (reached r1) a0 own_offset (at + 36)
+    (λ b. at) (word_in at 36 (target_frame k h) refl (omega arith)) (λ b m stands. placed k h b m stands.0)
     (record { reserved_stay = λ y u. refl; known_stay = λ b y u o. o; set = λ y u. refl })
     (record { reserved_stay = λ y u. refl; known_stay = λ b y u o. o; set = λ y u. refl })
     (front_of own (ask ++ call) l1) (reached_holds r1) in
     let r3 = straight (c + size_of first + size_of own) (reached r2) v v
-    (λ b y. Known (outer_ground k h) v k.numbers (λ n. 0) (asked_regs at) b y) (front_of ask call l2) (omega arith)
+    (λ b y. Known (outer_ground k h P) v k.numbers (λ n. 0) (asked_regs at) b y) (front_of ask call l2) (omega arith)
     (λ b. (reached_holds r2 b).pc)
     (λ b. let o = (reached_holds r2 b).holds in record {
       body = record {
@@ -282,5 +299,40 @@ unwound_reach k h c f l there =
         (small_is _ 0 (zero_is o.body) (omega arith), (o.regs.0, tt)),
       );
     }) in
-    let r4 = services_unwind k h (c + size_of first + size_of own + 2) (reached r3) l3 (reached_holds r3) in
+    let r4 = services_unwind k h P (c + size_of first + size_of own + 2) (reached r3) l3 (reached_holds r3) in
     reach_moved (omega (arith, n0, n1)) (omega (arith, n0, n1)) (reach_then r1 (reach_then r2 (reach_then r3 r4)))
+
+pub unwound_reach :
+    (k : Going) (h : IsGoing k) {i : ℕ} (c : ℕ) (f : Family) →
+    Linked k.surroundings.links k.code i (unwound_to k.target.level 0) → AreIn k.surroundings k.point k.numbers i f →
+    Reach k.code c f (services_of k.point) (c + size_of (unwound_to k.target.level 0))
+    (services_of (unwound_point k.target k.point))
+    (λ b y. At b (i + size_of (unwound_to k.target.level 0)) (Known (target_ground k h)
+    (services_of (unwound_point k.target k.point)) k.numbers (λ n. 0) nothing b) y)
+unwound_reach k h c f l there =
+    let frame = point_frame h.stands h.image in
+    reach_map _ (unwound_with k h (λ b m. Unit {0}) c f l
+    (λ b. let o = known_in {t = λ n. 0} {rs = nothing} frame (there b) tt in record {
+      pc = o.pc;
+      holds = record {
+        body = record {
+          services = o.holds.body.services;
+          registers = o.holds.body.registers;
+          bytes = o.holds.body.bytes;
+          memory = (o.holds.body.memory, tt);
+        };
+        regs = tt;
+      };
+    }))
+    (λ b y o. record {
+      pc = o.pc;
+      holds = record {
+        body = record {
+          services = o.holds.body.services;
+          registers = o.holds.body.registers;
+          bytes = o.holds.body.bytes;
+          memory = o.holds.body.memory.0;
+        };
+        regs = tt;
+      };
+    })
