@@ -216,16 +216,16 @@ pub fn begins_kept()
     number_headlines_kept();
 }
 
-/// A worked row with jumps: a procedure that calls itself, and in it a function, which leaves all of them for a label of
-/// the main procedure.
+/// A worked row with jumps: a procedure that calls itself, and in it a function, which leaves all of them for a label
+/// of the main procedure.
 pub fn search_kept()
     ensures { SearchKept }
 {
     number_headlines_kept();
 }
 
-/// A worked row with jumps and arguments: a function that calls itself with a parameter, in a loop that counts, until it
-/// leaves all of these for a label.
+/// A worked row with jumps and arguments: a function that calls itself with a parameter, in a loop that counts, until
+/// it leaves all of these for a label.
 pub fn quest_kept()
     ensures { QuestKept }
 {
