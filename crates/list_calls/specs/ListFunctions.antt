@@ -108,8 +108,8 @@ abbrev pub ValuesGive : Setting → Listed → (need : ℕ) → Type 0
 ValuesGive k u need = EachGives k need u.layer u.others u.words (all_words u) u.layer.waits u.ways
 
 pub record ListFunctionsDo : Type 0 where
-  -- it leaves the function's value if its arguments and its statements do what they mean, wherever it is called; no unit
-  -- is in force for ERROR
+  -- it leaves the function's value if its arguments and its statements do what they mean, wherever it is called; no
+  -- unit is in force for ERROR
   pub does :
       (k : Setting) (u : Listed) (need more : ℕ) → IsListedValue k u more → PassesNone k.block.first u.ways →
       ValuesGive k u need →

@@ -38,7 +38,7 @@ use Rattle.nested_begins.proofs.BegunVariables.{all_begun_in, known_begun_in}
 use Rattle.nested_begins.proofs.InnerBlocks.{inner_known, inner_nested, inner_number, inner_over}
 use Rattle.nested_begins.proofs.InnerBlocks.{own_parent}
 use Rattle.nested_calls.proofs.NestedVariables.{same_ancestor}
-use Rattle.number_runs.specs.Arrays.{bounds_if, is_array_if}
+use Rattle.number_runs.specs.Arrays.{grid_if, is_array_if}
 use Rattle.number_runs.specs.Narrow.{is_narrow_if, type_if}
 use Rattle.number_runs.specs.Numbers.{has_none, is_array_known, is_known, is_narrow_known, is_parameter_if, is_place}
 use Rattle.number_runs.specs.Numbers.{is_plain_if, is_received}
@@ -172,7 +172,7 @@ array_in :
     {p : Point} {numbers : ℕ → ℕ} {z : Stands m input acts valued more b a} (o : At z p numbers) (x : Spot) →
     is_array_known (scope_of program m.called z.head z.body) x ≡ true →
     IsArray (block_of_run program input acts valued more (run_begun z p numbers)) x
-    (bounds_if (declared_variable program (variable_of x)))
+    (grid_if (declared_variable program (variable_of x)))
 array_in {program} {m} {input} {acts} {valued = valued} {more = more} {a = a} {p = p} {numbers = numbers} {z = z} o x h
     =
     by (stands_in z x parts.0)
@@ -189,10 +189,10 @@ array_in {program} {m} {input} {acts} {valued = valued} {more = more} {a = a} {p
         × (list_any (is_place x) (places_to (environment_for program a.head) a.head.level) ≡ true))
         ⊎ ((x.block ≡ z.head.number) × (x.level ≡ z.head.level)) →
         IsArray (block_of_run program input acts valued more (run_begun z p numbers)) x
-        (bounds_if (declared_variable program (variable_of x)))
+        (grid_if (declared_variable program (variable_of x)))
     by (inl low) =
         outer_array (around_it z) (block_of_run program input acts valued more (run_begun z p numbers)) x
-        (bounds_if (declared_variable program (variable_of x))) (λ d is. outer_known_in o x d low.0 is)
+        (grid_if (declared_variable program (variable_of x))) (λ d is. outer_known_in o x d low.0 is)
         (z.running.arrays x
         (and_from (list_any (is_place x) (places_to (environment_for program a.head) a.head.level)) array low.1
         parts.1))

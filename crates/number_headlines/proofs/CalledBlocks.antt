@@ -31,7 +31,7 @@ use Rattle.nested_calls.specs.Nested.{IsNested, parent_at}
 use Rattle.nested_calls.specs.NestedVariables.{IsInside}
 use Rattle.nested_calls.proofs.NestedVariables.{function_known, function_nested, function_number, procedure_known}
 use Rattle.nested_calls.proofs.NestedVariables.{procedure_nested, procedure_number}
-use Rattle.number_runs.specs.Arrays.{bounds_if, is_array_if}
+use Rattle.number_runs.specs.Arrays.{grid_if, is_array_if}
 use Rattle.number_runs.specs.Narrow.{is_narrow_if, type_if}
 use Rattle.number_runs.specs.Numbers.{is_plain_if}
 use Rattle.number_runs.specs.Statements.{statements_set}
@@ -341,7 +341,7 @@ pub own_array_by :
     is_array_if (declared_variable program (variable_of x)) ≡ true →
     IsArray (block_of_run program input acts v more
     (entered_at i (block_of_run program input acts valued (suc more) a) call p numbers)) x
-    (bounds_if (declared_variable program (variable_of x)))
+    (grid_if (declared_variable program (variable_of x)))
 own_array_by false {program} m {input} {acts} {valued} {more} {a = a} {p = p} {numbers = numbers} o i call pass b' x is
     array =
     let k = block_of_run program input acts valued (suc more) a in

@@ -36,7 +36,7 @@ use Rattle.array_runs.specs.Arrays.{IsArray}
 use Rattle.scalar_runs.specs.Scalars.{IsScalar}
 use Rattle.variable_runs.specs.Lists.{layer_after}
 use Rattle.block_headlines.proofs.Constants.{called_of_program}
-use Rattle.number_runs.specs.Arrays.{bounds_if, is_array_if}
+use Rattle.number_runs.specs.Arrays.{grid_if, is_array_if}
 use Rattle.number_runs.specs.Narrow.{is_narrow_if, type_if}
 use Rattle.number_runs.specs.Numbers.{is_narrow_known}
 use Rattle.number_runs.specs.Numbers.{is_array_known, is_known, is_place, is_plain_if, is_received}
@@ -228,7 +228,7 @@ each_array :
     is_array_known (scope_of program m.called i.head i.body) x ≡ true →
     IsArray (block_of_run program input acts v more
     (entered_at i (block_of_run program input acts valued (suc more) a) call p numbers)) x
-    (bounds_if (declared_variable program (variable_of x)))
+    (grid_if (declared_variable program (variable_of x)))
 each_array {program} m {input} {acts} {valued} {more} {b} {a} {p} {numbers} o {v} {level} i call pass b' x h =
     by (stands_at i x parts.0).at
   where
@@ -245,9 +245,9 @@ each_array {program} m {input} {acts} {valued} {more} {b} {a} {p} {numbers} o {v
         ⊎ ((x.block ≡ i.head.number) × (x.level ≡ i.head.level)) →
         IsArray (block_of_run program input acts v more
         (entered_at i (block_of_run program input acts valued (suc more) a) call p numbers)) x
-        (bounds_if (declared_variable program (variable_of x)))
+        (grid_if (declared_variable program (variable_of x)))
     by (inl low) =
-        outer_array_by v m o i call pass b' x (bounds_if (declared_variable program (variable_of x))) low.0
+        outer_array_by v m o i call pass b' x (grid_if (declared_variable program (variable_of x))) low.0
         (o.running.arrays x
         (and_from (list_any (is_place x) (places_to (environment_for program a.head) a.head.level)) array low.1
         parts.1))

@@ -43,7 +43,7 @@ use Rattle.pli_headline.specs.Headline.{FitsMemory, Headline, parts}
 use Rattle.block_headlines.proofs.Constants.{constants_stand}
 use Rattle.block_headlines.specs.Headlines.{HeadlinesKept, Layout, Runs}
 use Rattle.nested_calls.specs.Nested.{IsNested}
-use Rattle.number_runs.specs.Arrays.{bounds_if, is_array_if}
+use Rattle.number_runs.specs.Arrays.{grid_if, is_array_if}
 use Rattle.number_runs.specs.Narrow.{is_narrow_if, type_if}
 use Rattle.number_runs.specs.Numbers.{is_array_known, is_known, is_narrow_known, is_place, is_plain_if}
 use Rattle.area_runs.specs.Allocations.{HasArea}
@@ -178,7 +178,7 @@ main_names {program} m input acts b x h small =
 main_element :
     {program : Y.Program} (m : Main program) (input : List ℕ) (acts : ℕ) → IsBegun (block_for m input acts) →
     (x : Spot) → is_array_known (scope_of program m.called m.head m.body) x ≡ true →
-    IsArray (block_for m input acts) x (bounds_if (declared_variable program (variable_of x)))
+    IsArray (block_for m input acts) x (grid_if (declared_variable program (variable_of x)))
 main_element {program} m input acts b x h =
     let array = is_array_if (declared_variable program (variable_of x)) in
     let a = and_parts (list_any (is_place x) (places_to (environment_for program m.head) m.head.level)) array h in

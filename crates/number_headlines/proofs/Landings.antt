@@ -56,8 +56,7 @@ pub record IsLanding (program : Y.Program) (a : Running) (level : ℕ) (label : 
   pub near : at ≤ most_code
 
 -- the block itself, as one further out of what is called from it: no text waits there, and it saves the registers that
--- a
--- label wants
+-- a label wants
 pub record IsTarget (program : Y.Program) (a : Running) : Type 0 where
   pub entries : a.texts (a.form.behind a.made).control.entries ≡ a.layer.entries
   pub edits : (a.form.behind a.made).control.edits ≡ a.layer.edits

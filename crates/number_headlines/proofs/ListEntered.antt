@@ -37,7 +37,7 @@ use Rattle.list_calls.specs.Lists.{Parameter, Passing}
 use Rattle.list_calls.specs.Taking.{AreBeside, listed_layer}
 use Rattle.list_calls.proofs.ListBlocks.{layer_is}
 use Rattle.list_calls.proofs.ListKnown.{list_nested, list_number, list_parameter, list_variable}
-use Rattle.number_runs.specs.Arrays.{bounds_if, is_array_if, is_array}
+use Rattle.number_runs.specs.Arrays.{grid_if, is_array_if, is_array}
 use Rattle.number_runs.specs.Based.{is_pointer}
 use Rattle.number_runs.specs.Narrow.{is_narrow_if, type_if, is_narrow}
 use Rattle.number_runs.specs.Numbers.{is_array_known, is_known, is_place, is_narrow_known}
@@ -361,7 +361,7 @@ given_arrays :
     {ns : List ℕ} {v : Bool} {level number : ℕ} (o : Given m input acts valued more b a ns v level number) (x : Spot) →
     is_array_known (scope_of program m.called o.inner.head o.inner.body) x ≡ true →
     IsArray (block_of_run program input acts v more (run_given o)) x
-    (bounds_if (declared_variable program (variable_of x)))
+    (grid_if (declared_variable program (variable_of x)))
 given_arrays {program} m {input} {acts} {valued} {more} {b} {a} {ns} {v} {level} {number} o x h =
     by (stands_at i x parts.0).at
   where
@@ -375,7 +375,7 @@ given_arrays {program} m {input} {acts} {valued} {more} {b} {a} {ns} {v} {level}
     around' = list_any (is_place x) (places_to (environment_for program a.head) a.head.level)
 
     bounds : Grid
-    bounds = bounds_if (declared_variable program (variable_of x))
+    bounds = grid_if (declared_variable program (variable_of x))
 
     parts :
         (list_any (is_place x) (places_to (environment_for program i.head) i.head.level) ≡ true) × (array ≡ true)

@@ -42,7 +42,7 @@ use Rattle.variable_runs.specs.Known.{IsKnown}
 use Rattle.area_runs.specs.Allocations.{HasArea}
 use Rattle.area_runs.specs.Based.{pointer_declared}
 use Rattle.number_runs.specs.Areas.{HasAreas, IsOwnArea, IsOwnPointer, held_bytes, held_in}
-use Rattle.number_runs.specs.Variables.{HaveRoom, IsOwnArray, IsOwnNarrow, IsOwnWord, own_bounds, own_type, words_in}
+use Rattle.number_runs.specs.Variables.{HaveRoom, IsOwnArray, IsOwnNarrow, IsOwnWord, own_grid, own_type, words_in}
 use Rattle.number_runs.proofs.AreaKnown.{all_held, held_area, held_array, held_narrow, held_pointer, held_word}
 use Rattle.number_runs.proofs.BlocksTaken.{words_set}
 use Rattle.number_runs.proofs.Words.{room_fewer}
@@ -359,7 +359,7 @@ main_number {program} m input acts x own b =
 pub main_array :
     {program : Y.Program} (m : Main program) (input : List ℕ) (acts : ℕ) (x : Spot) →
     IsOwnArray (main_for m input acts) x → IsBegun (block_for m input acts) →
-    IsArray (block_for m input acts) x (own_bounds (main_for m input acts) x)
+    IsArray (block_for m input acts) x (own_grid (main_for m input acts) x)
 main_array {program} m input acts x own b =
     held_array (surroundings_for program input acts) (linked_code (code_for program)) (main_for m input acts)
     (start_for program input acts) no_numbers x (record { high = omega arith; inside = omega arith })

@@ -49,7 +49,7 @@ use Rattle.area_runs.specs.Allocations.{HasArea}
 use Rattle.area_runs.specs.Based.{pointer_declared}
 use Rattle.number_runs.specs.Knowledge.{KnowsGivenCalls}
 use Rattle.number_runs.specs.Numbers.{is_area_known, is_pointer_known}
-use Rattle.number_runs.specs.Numbers.{bounds_known, is_array_known, is_known, is_narrow_known, is_received, type_known}
+use Rattle.number_runs.specs.Numbers.{grid_known, is_array_known, is_known, is_narrow_known, is_received, type_known}
 use Rattle.number_runs.proofs.BeginsSaved.{begins_held}
 use Rattle.number_runs.proofs.BlocksTaken.{registers_held}
 use Rattle.number_runs.proofs.Arrays.{array_told}
@@ -86,10 +86,8 @@ with_entries texts k = record k { first = with_texts (texts k.first.control.entr
 -- ---- as it is called
 
 -- how it came to run: the index of its entry, what it returns behind a call, its first point behind its act of entry,
--- of
--- which a begin block has none, where a RETURN in it goes, the registers that its code may write, and the blocks
--- further
--- out to which it may go on
+-- of which a begin block has none, where a RETURN in it goes, the registers that its code may write, and the blocks
+-- further out to which it may go on
 pub record Form : Type 0 where
   pub entry : ℕ
   pub function : Option Function
@@ -264,7 +262,7 @@ pub record IsRunning {program : Y.Program} (m : Main program) (input : List ℕ)
     pub arrays :
         (x : Spot) → is_array_known (scope_of program m.called a.head a.body) x ≡ true →
         IsArray (block_of_run program input acts valued more a) x
-        (bounds_known (scope_of program m.called a.head a.body) x)
+        (grid_known (scope_of program m.called a.head a.body) x)
     pub narrows :
         (x : Spot) → is_narrow_known (scope_of program m.called a.head a.body) x ≡ true →
         IsScalar (block_of_run program input acts valued more a) x
@@ -434,7 +432,7 @@ told_running {program} {m} {input} {acts} {valued} {more} {a} {blocks} h waits =
       nested = record { own = h.nested.own; few = h.nested.few; some = h.nested.some; same = h.nested.same };
       variables = λ x is. number_told k φ φs waits free.newest x (h.variables x is);
       arrays = λ x is.
-          array_told k φ φs waits free.newest x (bounds_known (scope_of program m.called a.head a.body) x)
+          array_told k φ φs waits free.newest x (grid_known (scope_of program m.called a.head a.body) x)
           (h.arrays x is);
       narrows = λ x is.
           narrow_told k φ φs waits free.newest x (type_known (scope_of program m.called a.head a.body) x)
@@ -487,7 +485,7 @@ waited_running {program} {m} {input} {acts} {valued} {more} {a} {blocks} h entri
       enough = h.enough;
       nested = record { own = h.nested.own; few = h.nested.few; some = h.nested.some; same = h.nested.same };
       variables = λ x is. number_waits k entries x (h.variables x is);
-      arrays = λ x is. array_waits k entries x (bounds_known s x) (h.arrays x is);
+      arrays = λ x is. array_waits k entries x (grid_known s x) (h.arrays x is);
       narrows = λ x is. narrow_waits k entries x (type_known s x) (h.narrows x is);
       parameters = λ x is. parameter_waits k entries x (h.parameters x is);
       named = λ x is. telling_waits k entries x (h.named x is);

@@ -1,6 +1,5 @@
 -- A worked row with jumps out of begin blocks: a procedure that calls itself from one, until that leaves all of them
--- for
--- a label of the main procedure.
+-- for a label of the main procedure.
 use Rattle.std.specs.Prelude.{ℕ, ◌≡◌, List, [], ◌∷◌, Some, None}
 use Rattle.pli_typing.specs.TypedTree as Y
 use Rattle.pli_meaning.specs.declared.outcome.End.TheVariants as E

@@ -1,6 +1,5 @@
 -- A worked row with functions that return fewer bits: one squares a number in a loop until that has too many, and
--- another
--- tells how far it is.
+-- another tells how far it is.
 use Rattle.std.specs.Prelude.{ℕ, ◌≡◌, List, [], ◌∷◌, Some, None}
 use Rattle.pli_language.specs.declared.condition.Condition.TheVariants as C
 use Rattle.pli_typing.specs.TypedTree as Y

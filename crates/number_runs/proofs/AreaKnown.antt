@@ -32,7 +32,7 @@ use Rattle.number_runs.specs.Areas.{HasAreas, IsOwnArea, IsOwnPointer, held_byte
 use Rattle.number_runs.specs.Arrays.{is_array}
 use Rattle.number_runs.specs.Based.{is_area, is_area_if, is_based, is_pointer_if}
 use Rattle.number_runs.specs.Narrow.{is_narrow}
-use Rattle.number_runs.specs.Variables.{HaveRoom, IsOwnArray, IsOwnNarrow, IsOwnWord, own_bounds, own_type}
+use Rattle.number_runs.specs.Variables.{HaveRoom, IsOwnArray, IsOwnNarrow, IsOwnWord, own_grid, own_type}
 use Rattle.number_runs.proofs.Areas.{capacity_in}
 use Rattle.number_runs.proofs.AreaNames.{IsNamed, named_each}
 use Rattle.number_runs.proofs.AreaWords.{held_among, held_before, held_coded, held_declared, held_few, held_listed}
@@ -156,7 +156,7 @@ area_other d h = let a = area_is d h in ap is_based a.is
 pub held_array :
     (w : Surroundings) (code : List Instr) (c : Callee) (p : Point) (numbers : ℕ → ℕ) (x : Spot) →
     HasParts w.parts → HasAreas w code c p numbers → IsOwnArray c x → IsBegun (block_at w code c p numbers) →
-    IsArray (block_at w code c p numbers) x (own_bounds c x)
+    IsArray (block_at w code c p numbers) x (own_grid c x)
 held_array w code c p numbers x parts h own b =
     let o = declared_variable c.environment.program (variable_of x) in
     let there = found_array o own.array in

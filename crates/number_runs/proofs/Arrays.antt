@@ -26,12 +26,12 @@ use Rattle.array_runs.specs.Subscripts.{IsSimple, IsSubscript}
 use Rattle.array_runs.proofs.Asked.{elements_does, lower_does, upper_does}
 use Rattle.array_runs.proofs.Outer.{outer_array}
 use Rattle.number_runs.specs.Initial.{are_values, values_in, values_of}
-use Rattle.number_runs.specs.Arrays.{are_all_bounds, are_bounds, array_bounds, bounds_if, bounds_in, is_array}
+use Rattle.number_runs.specs.Arrays.{are_all_bounds, are_bounds, declared_grid, grid_if, grid_in, is_array}
 use Rattle.number_runs.specs.Arrays.{is_array_if}
 use Rattle.number_runs.specs.Arrays.{has_dimensions, is_array_of, is_element_type, is_grid}
 use Rattle.number_runs.specs.Knowledge.{KnowsNumbers}
 use Rattle.number_runs.specs.Narrow.{is_number_type}
-use Rattle.number_runs.specs.Numbers.{Scope, bounds_known, is_array_known, is_asked, is_automatic, is_element, is_given}
+use Rattle.number_runs.specs.Numbers.{Scope, grid_known, is_array_known, is_asked, is_automatic, is_element, is_given}
 use Rattle.number_runs.specs.Numbers.{is_grid_with, is_item, is_narrow_with, is_number, is_place, is_reference}
 use Rattle.number_runs.specs.Numbers.{is_variable}
 use Rattle.number_runs.specs.Numbers.{number_needs, spot_of, type_known}
@@ -123,7 +123,7 @@ declared_by c ms ls r es = record { class = c; members = ms; leaves = ls; refer 
 declared_is :
     (c : Y.StorageClass) (ms : List Y.Member) (ls : List Y.Leaf) (r : Option Y.ReferMember) (es : List Y.Evaluation) →
     is_array_of c ms ls r es ≡ true →
-    (declared_by c ms ls r es ≡ grid_declared (bounds_in ls) (values_in ls)) × IsGrid (bounds_in ls) (values_in ls)
+    (declared_by c ms ls r es ≡ grid_declared (grid_in ls) (values_in ls)) × IsGrid (grid_in ls) (values_in ls)
 declared_is Y.AutomaticClass (m ∷ []) (l ∷ []) None [] h =
     let grid = is_grid l.type l.bounds l.initial in
     let a = and_parts (m.depth == 0) ((m.dimensions == length l.bounds) && grid) h in
@@ -149,19 +149,19 @@ declared_is Y.StaticClass ms ls r es h = absurd (cc h)
 declared_is Y.BasedClass ms ls r es h = absurd (cc h)
 declared_is Y.ControlledClass ms ls r es h = absurd (cc h)
 
-pub array_is : (d : Y.DeclaredVariable) → is_array d ≡ true → d ≡ grid_declared (array_bounds d) (values_of d)
+pub array_is : (d : Y.DeclaredVariable) → is_array d ≡ true → d ≡ grid_declared (declared_grid d) (values_of d)
 array_is d h = (declared_is d.class d.members d.leaves d.refer d.evaluations h).0
 
-pub grid_of : (d : Y.DeclaredVariable) → is_array d ≡ true → IsGrid (array_bounds d) (values_of d)
+pub grid_of : (d : Y.DeclaredVariable) → is_array d ≡ true → IsGrid (declared_grid d) (values_of d)
 grid_of d h = (declared_is d.class d.members d.leaves d.refer d.evaluations h).1
 
 -- the type of one that is known is one of these
-pub known_element : (s : Scope) (x : Spot) → is_array_known s x ≡ true → IsElementType (bounds_known s x).type
+pub known_element : (s : Scope) (x : Spot) → is_array_known s x ≡ true → IsElementType (grid_known s x).type
 known_element s x h =
     let o = declared_variable s.program (variable_of x) in
     by o (and_parts (list_any (is_place x) s.blocks) (is_array_if o) h).1
   where
-    by : (o : Option Y.DeclaredVariable) → is_array_if o ≡ true → IsElementType (bounds_if o).type
+    by : (o : Option Y.DeclaredVariable) → is_array_if o ≡ true → IsElementType (grid_if o).type
     by None h = absurd (cc h)
     by (Some d) h = type_of (grid_of d h)
 
@@ -182,8 +182,8 @@ pub record IsElementOf (s : Scope) (test : Y.LeafType → Bool) (v : Y.Variable)
     pub spot : Spot
     pub is : Y.Referring v Y.NotLocated part subscripts ≡ element spot subscripts
     pub known : is_array_known s spot ≡ true
-    pub passes : test (bounds_known s spot).type ≡ true
-    pub many : length (bounds_known s spot).bounds ≡ given_in subscripts
+    pub passes : test (grid_known s spot).type ≡ true
+    pub many : length (grid_known s spot).bounds ≡ given_in subscripts
     pub may : s.elements ≡ true
 
 pub element_is :
@@ -191,7 +191,7 @@ pub element_is :
     is_element s test v part (given_in subscripts) ≡ true → IsElementOf s test v part subscripts
 element_is s test v part subscripts h =
     let known = is_array_known s (spot_of v) in
-    let g = bounds_known s (spot_of v) in
+    let g = grid_known s (spot_of v) in
     let fits = is_grid_with test (given_in subscripts) g in
     let all = (part.first == 0) && ((part.count == 1) && (known && fits)) in
     let d = and_parts s.elements (is_automatic v.class && all) h in
@@ -220,7 +220,7 @@ pub record IsAskedOf (s : Scope) (r : Y.Reference) (dimension : ℕ) : Type 0 wh
   pub place : ℕ
   pub from : dimension ≡ suc place
   pub bounds : Bounds
-  pub there : IsDimension (bounds_known s spot).bounds place bounds
+  pub there : IsDimension (grid_known s spot).bounds place bounds
 
 dimension_there : (bs : List Bounds) (n : ℕ) → n < length bs → (b : Bounds) × IsDimension bs n b
 dimension_there [] n less = absurd (omega (arith, less))
@@ -235,7 +235,7 @@ pub asked_is :
     (s : Scope) (r : Y.Reference) (dimension : ℕ) → is_asked s r dimension ≡ true → IsAskedOf s r dimension
 asked_is s (Y.Referring v Y.NotLocated part Y.NoNumber) dimension h =
     let known = is_array_known s (spot_of v) in
-    let bs = (bounds_known s (spot_of v)).bounds in
+    let bs = (grid_known s (spot_of v)).bounds in
     let within = nat_lt 0 dimension && nat_le dimension (length bs) in
     let all = (part.first == 0) && ((part.count == 1) && (known && within)) in
     let d = and_parts s.elements (is_automatic v.class && all) h in
@@ -271,7 +271,7 @@ lower_known s k r dimension h is =
     let w = asked_is s r dimension is in
     subst (λ q. Does k 0 (Y.LowerBound q dimension)) (sym w.is)
     (subst (λ n. Does k 0 (Y.LowerBound (whole w.spot) n)) (sym w.from)
-    (lower_does k w.spot (bounds_known s w.spot) w.place w.bounds (h.arrays w.may w.spot w.known) w.there))
+    (lower_does k w.spot (grid_known s w.spot) w.place w.bounds (h.arrays w.may w.spot w.known) w.there))
 
 pub upper_known :
     (s : Scope) (k : Setting) (r : Y.Reference) (dimension : ℕ) → KnowsNumbers s k → is_asked s r dimension ≡ true →
@@ -280,7 +280,7 @@ upper_known s k r dimension h is =
     let w = asked_is s r dimension is in
     subst (λ q. Does k 0 (Y.UpperBound q dimension)) (sym w.is)
     (subst (λ n. Does k 0 (Y.UpperBound (whole w.spot) n)) (sym w.from)
-    (upper_does k w.spot (bounds_known s w.spot) w.place w.bounds (h.arrays w.may w.spot w.known) w.there))
+    (upper_does k w.spot (grid_known s w.spot) w.place w.bounds (h.arrays w.may w.spot w.known) w.there))
 
 pub elements_known :
     (s : Scope) (k : Setting) (r : Y.Reference) (dimension : ℕ) → KnowsNumbers s k → is_asked s r dimension ≡ true →
@@ -289,7 +289,7 @@ elements_known s k r dimension h is =
     let w = asked_is s r dimension is in
     subst (λ q. Does k 0 (Y.ElementsOf q dimension)) (sym w.is)
     (subst (λ n. Does k 0 (Y.ElementsOf (whole w.spot) n)) (sym w.from)
-    (elements_does k w.spot (bounds_known s w.spot) w.place w.bounds (h.arrays w.may w.spot w.known) w.there))
+    (elements_does k w.spot (grid_known s w.spot) w.place w.bounds (h.arrays w.may w.spot w.known) w.there))
 
 -- ---- subscripts
 

@@ -23,7 +23,7 @@ use Rattle.array_runs.proofs.ArrayCode.{constant_is}
 use Rattle.array_runs.proofs.ArrayPoints.{size_is}
 use Rattle.array_runs.proofs.Counting.{count_some}
 use Rattle.number_runs.specs.Initial.{are_values, values_of}
-use Rattle.number_runs.specs.Arrays.{array_bounds, is_array}
+use Rattle.number_runs.specs.Arrays.{declared_grid, is_array}
 use Rattle.scalar_runs.specs.Scalars.{scalar_declared}
 use Rattle.number_runs.specs.Narrow.{is_narrow, is_narrow_type, narrow_type}
 use Rattle.area_runs.specs.Based.{pointer_declared}
@@ -55,7 +55,7 @@ of_declared P one many few point d h = by (or_cases (is_plain d) (is_array d || 
     other : (is_array d ≡ true) ⊎ ((is_narrow d || is_pointer d) ≡ true) → P d
     other (inl array) =
         subst P (sym (array_is d array))
-        (many (array_bounds d) (values_of d) (grid_of d array))
+        (many (declared_grid d) (values_of d) (grid_of d array))
     other (inr rest) = last (or_cases (is_narrow d) (is_pointer d) rest)
 
     by : (is_plain d ≡ true) ⊎ ((is_array d || (is_narrow d || is_pointer d)) ≡ true) → P d

@@ -56,7 +56,7 @@ use Rattle.word_runs.specs.Words.{with_word}
 use Rattle.number_runs.specs.Knowledge.{HasLists, IsFree, KnowsGiven, KnowsNumbers, given_number, most_set}
 use Rattle.number_runs.specs.Knowledge.{KnowsConstants}
 use Rattle.number_runs.specs.Numbers.{Scope, are_arguments, are_numbers}
-use Rattle.number_runs.specs.Numbers.{arguments_need, arguments_set, bounds_known, call_needs, call_sets, gives_lists}
+use Rattle.number_runs.specs.Numbers.{arguments_need, arguments_set, grid_known, call_needs, call_sets, gives_lists}
 use Rattle.number_runs.specs.Numbers.{is_argument, is_element, is_fixed, is_given, is_number, is_reference, is_test}
 use Rattle.number_runs.specs.Numbers.{is_variable, may_calculate, number_needs, number_sets, numbers_need}
 use Rattle.number_runs.specs.Numbers.{numbers_set, reference_needs, reference_sets, test_needs, test_sets, type_known}
@@ -202,7 +202,7 @@ numbers_told s k h g words few waits free =
       subscript = λ may. g.subscript may words few waits;
       variables = λ x is. number_told k.block g.layer g.others waits g.newest x (h.variables x is);
       arrays = λ may x is.
-          array_told k.block g.layer g.others waits g.newest x (bounds_known s x) (h.arrays may x is);
+          array_told k.block g.layer g.others waits g.newest x (grid_known s x) (h.arrays may x is);
       narrows = λ may x is.
           narrow_told k.block g.layer g.others waits g.newest x (type_known s x) (h.narrows may x is);
       parameters = λ x is. around_told k.block g.layer g.others waits g.newest x (h.parameters x is);
@@ -273,7 +273,7 @@ element_number :
     Does k (subscripts_need xs) (Y.NumberIn (Y.Referring v Y.NotLocated part xs))
 element_number s k test v part xs h is typed subscripts =
     let w = element_is s test v part xs is in
-    let g = bounds_known s w.spot in
+    let g = grid_known s w.spot in
     let t = typed g.type w.passes in
     subst (λ r. Does k (subscripts_need xs) (Y.NumberIn r)) (sym w.is)
     (A.number_does k w.spot g t.0 xs (subscripts_need xs) h.begun (h.arrays w.may w.spot w.known) t.1
@@ -285,7 +285,7 @@ element_bit :
     Tests k (subscripts_need xs) (Y.BitIn (Y.Referring v Y.NotLocated part xs))
 element_bit s k v part xs h is subscripts =
     let w = element_is s is_bit v part xs is in
-    let g = bounds_known s w.spot in
+    let g = grid_known s w.spot in
     subst (λ r. Tests k (subscripts_need xs) (Y.BitIn r)) (sym w.is)
     (A.bit_does k w.spot g xs (subscripts_need xs) h.begun (h.arrays w.may w.spot w.known) (bit_is g.type w.passes)
     (h.subscript w.may) (subscripts g.bounds w.many))

@@ -31,7 +31,7 @@ use Rattle.reference_runs.specs.ParameterAssignments as P
 use Rattle.parameter_runs.proofs.Assigning.{around_assigned}
 use Rattle.number_runs.specs.Knowledge.{AreAround, HasFrame, HasLists, Includes, IsReady, IsUnraised, KnowsGiven}
 use Rattle.number_runs.specs.Knowledge.{KnowsNumbers, KnowsRaises, MayBeSet, given_statement, KnowsTexts}
-use Rattle.number_runs.specs.Numbers.{Scope, are_arguments, arguments_need, bounds_known, call_sets, gives_lists}
+use Rattle.number_runs.specs.Numbers.{Scope, are_arguments, arguments_need, grid_known, call_sets, gives_lists}
 use Rattle.number_runs.specs.Numbers.{is_element, is_fixed, is_given, is_number, is_reference, is_variable}
 use Rattle.number_runs.specs.Numbers.{are_numbers, numbers_set, subscripts_need}
 use Rattle.number_runs.specs.Numbers.{number_needs, number_sets, reference_needs, reference_sets, test_needs}
@@ -364,7 +364,7 @@ element_given :
 element_given h labels v part subscripts source line index includes is one numbers two fits more sets =
     let s = h.scope in
     let t = element_is s is_fixed v part subscripts one in
-    let g = bounds_known s t.spot in
+    let g = grid_known s t.spot in
     let x = storing s source two in
     let first = number_needs x.number in
     let second = suc (subscripts_need subscripts) in

@@ -14,7 +14,7 @@ use Rattle.array_runs.specs.Arrays.{IsElementType, element}
 use Rattle.array_runs.proofs.Assignments as A
 use Rattle.number_runs.specs.Knowledge.{HasFrame, Includes}
 use Rattle.number_runs.specs.Narrow.{has_precision, is_bit}
-use Rattle.number_runs.specs.Numbers.{are_numbers, bounds_known, is_element, is_item, is_number, is_test, number_needs}
+use Rattle.number_runs.specs.Numbers.{are_numbers, grid_known, is_element, is_item, is_number, is_test, number_needs}
 use Rattle.number_runs.specs.Numbers.{number_sets, numbers_set, reference_needs, reference_sets, subscripts_need}
 use Rattle.number_runs.specs.Numbers.{test_needs, test_sets}
 use Rattle.number_runs.specs.Statements.{is_line}
@@ -50,7 +50,7 @@ number_item h labels (Y.Referring v Y.NotLocated part (Y.NumberThen first rest))
     let test = has_precision precision in
     let a = and_parts (is_element s test v part (suc (given_in rest))) (is_number s first && are_numbers s rest) one in
     let t = element_is s test v part xs a.0 in
-    let g = bounds_known s t.spot in
+    let g = grid_known s t.spot in
     let type = precision_is precision g.type t.passes in
     let few : precision ≤ 31 = subst IsElementType type (known_element s t.spot t.known) in
     let need = max (number_needs x) 1 in
@@ -93,7 +93,7 @@ bit_item h labels (Y.Referring v Y.NotLocated part (Y.NumberThen first rest)) x 
     let a = and_parts (is_element s is_bit v part (suc (given_in rest))) (is_number s first && are_numbers s rest)
     one in
     let t = element_is s is_bit v part xs a.0 in
-    let g = bounds_known s t.spot in
+    let g = grid_known s t.spot in
     let second = suc (subscripts_need xs) in
     let all = max (test_sets x) (max 0 (numbers_set xs)) in
     let k = setting_around h.words h.block labels line h.most in

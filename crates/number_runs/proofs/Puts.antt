@@ -40,7 +40,7 @@ use Rattle.edit_runs.proofs.TextItems.{text_goes}
 use Rattle.text_values.proofs.Known.{constant_placed}
 use Rattle.number_runs.specs.Knowledge.{IsUnraised, KnowsConstants, KnowsLists, KnowsNumbers, KnowsPuts, MayBeSet}
 use Rattle.number_runs.specs.Knowledge.{KnowsPlaced, KnowsTexts}
-use Rattle.number_runs.specs.Numbers.{Scope, bounds_known, is_array_known, is_known, is_received}
+use Rattle.number_runs.specs.Numbers.{Scope, grid_known, is_array_known, is_known, is_received}
 use Rattle.scalar_runs.specs.Scalars.{IsScalar}
 use Rattle.number_runs.specs.Numbers.{is_narrow_known, number_needs, type_known}
 use Rattle.number_runs.specs.Numbers.{is_precision, is_text, text_needs}
@@ -297,7 +297,7 @@ unraised_placed k place most u =
 pub puts_known :
     (s : Scope) (k : Block) (most : ℕ) → IsBegun k → IsUnraised k most →
     ((x : Spot) → is_known s x ≡ true → IsNumber k x) →
-    (s.elements ≡ true → (x : Spot) → is_array_known s x ≡ true → IsArray k x (bounds_known s x)) →
+    (s.elements ≡ true → (x : Spot) → is_array_known s x ≡ true → IsArray k x (grid_known s x)) →
     (s.narrows ≡ true → (x : Spot) → is_narrow_known s x ≡ true → IsScalar k x (type_known s x)) →
     ((x : Spot) → is_received s x ≡ true → IsParameterAround k x) → (s.codes ≡ true → HasCode k) →
     (s.texts ≡ true → KnowsConstants k) → KnowsLists k → (s.locates ≡ true → KnowsPlaced s k most) →
@@ -331,7 +331,7 @@ puts_known s k most b u variables arrays narrows parameters codes constants list
               most = u.few;
             });
             variables = λ x is. number_placed k place x (variables x is);
-            arrays = λ may x is. array_placed k place x (bounds_known s x) (arrays may x is);
+            arrays = λ may x is. array_placed k place x (grid_known s x) (arrays may x is);
             narrows = λ may x is. narrow_placed k place x (type_known s x) (narrows may x is);
             parameters = λ x is. parameter_placed k place x (parameters x is);
             pointers = λ may. absurd (cc may);

@@ -26,7 +26,7 @@ use Rattle.counter_runs.proofs.Words.{begun_telling}
 use Rattle.number_runs.specs.Knowledge.{AreStandingWith, HasFrame, IsHome, IsReady, IsFree, KnowsGivenCalls}
 use Rattle.number_runs.specs.Knowledge.{StandingWith, KnowsAroundTexts, KnowsCalls, KnowsRaises, KnowsPuts, KnowsReads}
 use Rattle.number_runs.specs.Knowledge.{GoesThrough}
-use Rattle.number_runs.specs.Numbers.{Scope, bounds_known, type_known, without_located}
+use Rattle.number_runs.specs.Numbers.{Scope, grid_known, type_known, without_located}
 use Rattle.number_runs.proofs.Arrays.{array_told}
 use Rattle.number_runs.proofs.Narrow.{narrow_told}
 use Rattle.parameter_runs.proofs.Passing.{around_told}
@@ -150,7 +150,7 @@ ready_told {s} {k = k} r c none waits behind free =
       held = r.held;
       raises = l.raises waits;
       variables = λ x is. number_told k l.layer l.others waits l.newest x (r.variables x is);
-      arrays = λ may x is. array_told k l.layer l.others waits l.newest x (bounds_known s x) (r.arrays may x is);
+      arrays = λ may x is. array_told k l.layer l.others waits l.newest x (grid_known s x) (r.arrays may x is);
       narrows = λ may x is. narrow_told k l.layer l.others waits l.newest x (type_known s x) (r.narrows may x is);
       parameters = λ x is. around_told k l.layer l.others waits l.newest x (r.parameters x is);
       codes = r.codes;

@@ -16,7 +16,7 @@ use Rattle.text_runs.specs.Waiting.{over}
 use Rattle.text_runs.proofs.Waiting.{number_waits}
 use Rattle.text_values.proofs.Known.{constant_waits}
 use Rattle.number_runs.specs.Knowledge.{KnowsNumbers, KnowsTexts, KnowsWaiting}
-use Rattle.number_runs.specs.Numbers.{Scope, bounds_known, type_known, without_given, IsBare, without_located}
+use Rattle.number_runs.specs.Numbers.{Scope, grid_known, type_known, without_given, IsBare, without_located}
 use Rattle.std.proofs.lemmas.Bool.{and_parts}
 
 pub known_waits :
@@ -98,7 +98,7 @@ numbers_wait {s} {k} entries none h t =
       divisor = w.divisor;
       subscript = w.subscript;
       variables = λ x is. number_waits k.block entries x (h.variables x is);
-      arrays = λ may x is. array_waits k.block entries x (bounds_known s x) (h.arrays may x is);
+      arrays = λ may x is. array_waits k.block entries x (grid_known s x) (h.arrays may x is);
       narrows = λ may x is. narrow_waits k.block entries x (type_known s x) (h.narrows may x is);
       parameters = λ x is. parameter_waits k.block entries x (h.parameters x is);
       codes = h.codes;

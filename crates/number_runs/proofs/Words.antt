@@ -35,13 +35,13 @@ use Rattle.variable_runs.proofs.Known.{known_begun, known_number}
 use Rattle.variable_runs.proofs.Lists.{next_layers}
 use Rattle.array_runs.specs.Arrays.{IsArray}
 use Rattle.number_runs.specs.Initial.{values_of}
-use Rattle.number_runs.specs.Arrays.{array_bounds, bounds_if, is_array, is_array_if}
+use Rattle.number_runs.specs.Arrays.{declared_grid, grid_if, is_array, is_array_if}
 use Rattle.scalar_runs.specs.Scalars.{IsScalar}
 use Rattle.number_runs.specs.Narrow.{is_narrow, is_narrow_if, narrow_type, type_if}
 use Rattle.number_runs.specs.Numbers.{is_plain, is_plain_if}
 use Rattle.number_runs.specs.Variables.{EachBegins}
 use Rattle.number_runs.specs.Variables.{AreTabled, HasWords, HaveRoom, IsOwnArray, IsOwnNarrow, IsOwnWord, IsTabled}
-use Rattle.number_runs.specs.Variables.{are_plain, bytes_of, is_declared, own_bounds, own_type, variable_bytes}
+use Rattle.number_runs.specs.Variables.{are_plain, bytes_of, is_declared, own_grid, own_type, variable_bytes}
 use Rattle.number_runs.specs.Variables.{words_from, words_in}
 use Rattle.number_runs.proofs.Arrays.{array_is, grid_of, type_of}
 use Rattle.number_runs.proofs.Declared.{makeable, sized}
@@ -326,7 +326,7 @@ pub record FoundArray (o : Option Y.DeclaredVariable) : Type 0 where
   pub declared : Y.DeclaredVariable
   pub is : o ≡ Some declared
   pub array : is_array declared ≡ true
-  pub bounds : bounds_if o ≡ array_bounds declared
+  pub bounds : grid_if o ≡ declared_grid declared
 
 pub found_array : (o : Option Y.DeclaredVariable) → is_array_if o ≡ true → FoundArray o
 found_array None h = absurd (cc h)
@@ -487,7 +487,7 @@ function_known w code c p q numbers x d parts known own is b =
 -- an array that is known has the bounds of its declaration
 pub array_known :
     (k : Block) (x : Spot) (o : Option Y.DeclaredVariable) (f : FoundArray o) → IsKnown k x f.declared →
-    IsArray k x (bounds_if o)
+    IsArray k x (grid_if o)
 array_known k x o f known =
     subst (λ b. IsArray k x b) (sym f.bounds)
     (record {
@@ -521,7 +521,7 @@ own_word w code c p q numbers x parts known own b =
 pub own_array :
     (w : Surroundings) (code : List Instr) (c : Callee) (p q : Point) (numbers : ℕ → ℕ) (x : Spot) →
     HasParts w.parts → HasWords w code c q numbers × AreAllBegun w code c p numbers (words_in c.environment) →
-    IsOwnArray c x → IsBegun (block_at w code c p numbers) → IsArray (block_at w code c p numbers) x (own_bounds c x)
+    IsOwnArray c x → IsBegun (block_at w code c p numbers) → IsArray (block_at w code c p numbers) x (own_grid c x)
 own_array w code c p q numbers x parts known own b =
     let o = declared_variable c.environment.program (variable_of x) in
     let there = found_array o own.array in
@@ -542,7 +542,7 @@ pub function_array :
     (w : Surroundings) (code : List Instr) (c : Callee) (p q : Point) (numbers : ℕ → ℕ) (x : Spot) →
     HasParts w.parts → HasWords w code c q numbers × AreAllBegun w code c p numbers (words_in c.environment) →
     IsOwnArray c x →
-    IsBegun (function_block w code c p numbers) → IsArray (function_block w code c p numbers) x (own_bounds c x)
+    IsBegun (function_block w code c p numbers) → IsArray (function_block w code c p numbers) x (own_grid c x)
 function_array w code c p q numbers x parts known own b =
     let o = declared_variable c.environment.program (variable_of x) in
     let there = found_array o own.array in

@@ -24,7 +24,7 @@ use Rattle.area_runs.specs.Allocations.{HasArea}
 use Rattle.area_runs.specs.Based.{pointer_declared}
 use Rattle.number_runs.specs.Based.{is_area_if, is_based, is_pointer_if}
 use Rattle.number_runs.specs.Variables.{AreTabled, EachBegins, HaveRoom, IsOwnArray, IsOwnNarrow, IsOwnWord, are_any}
-use Rattle.number_runs.specs.Variables.{own_bounds, own_type}
+use Rattle.number_runs.specs.Variables.{own_grid, own_type}
 
 -- what they take in its frame: an area as many bytes as its keeper needs, and what is BASED none
 abbrev pub held_bytes : MemoryParts → List Y.DeclaredVariable → ℕ
@@ -108,7 +108,7 @@ pub record AreasMade : Type 0 where
   pub array :
       (w : Surroundings) (code : List Instr) (c : Callee) (p : Point) (numbers : ℕ → ℕ) (x : Spot) →
       HasParts w.parts → HasAreas w code c p numbers → IsOwnArray c x → IsBegun (block_at w code c p numbers) →
-      IsArray (block_at w code c p numbers) x (own_bounds c x)
+      IsArray (block_at w code c p numbers) x (own_grid c x)
   pub narrow :
       (w : Surroundings) (code : List Instr) (c : Callee) (p : Point) (numbers : ℕ → ℕ) (x : Spot) →
       HasParts w.parts → HasAreas w code c p numbers → IsOwnNarrow c x → IsBegun (block_at w code c p numbers) →

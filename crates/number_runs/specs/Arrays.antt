@@ -49,12 +49,12 @@ is_array d = is_array_of d.class d.members d.leaves d.refer d.evaluations
 abbrev pub no_grid : Grid
 no_grid = record { type = Y.BitLeaf; bounds = [] }
 
-abbrev pub bounds_in : List Y.Leaf → Grid
-bounds_in [] = no_grid
-bounds_in (l ∷ ls) = record { type = l.type; bounds = map (bounds_of []) l.bounds }
+abbrev pub grid_in : List Y.Leaf → Grid
+grid_in [] = no_grid
+grid_in (l ∷ ls) = record { type = l.type; bounds = map (bounds_of []) l.bounds }
 
-abbrev pub array_bounds : Y.DeclaredVariable → Grid
-array_bounds d = bounds_in d.leaves
+abbrev pub declared_grid : Y.DeclaredVariable → Grid
+declared_grid d = grid_in d.leaves
 
 -- ---- where there may be none
 
@@ -62,6 +62,6 @@ abbrev pub is_array_if : Option Y.DeclaredVariable → Bool
 is_array_if None = false
 is_array_if (Some d) = is_array d
 
-abbrev pub bounds_if : Option Y.DeclaredVariable → Grid
-bounds_if None = no_grid
-bounds_if (Some d) = array_bounds d
+abbrev pub grid_if : Option Y.DeclaredVariable → Grid
+grid_if None = no_grid
+grid_if (Some d) = declared_grid d

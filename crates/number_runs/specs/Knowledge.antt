@@ -59,7 +59,7 @@ use Rattle.member_runs.specs.MemberPointers.{following, linking}
 use Rattle.member_runs.specs.NullMembers.{nulling}
 use Rattle.member_runs.specs.Members.{member_of}
 use Rattle.scalar_runs.specs.Scalars.{IsScalar}
-use Rattle.number_runs.specs.Numbers.{Scope, bounds_known, is_array_known, is_known, is_narrow_known, is_received}
+use Rattle.number_runs.specs.Numbers.{Scope, grid_known, is_array_known, is_known, is_narrow_known, is_received}
 use Rattle.number_runs.specs.Based.{is_pointer_type, is_word_type}
 use Rattle.number_runs.specs.Numbers.{gives_lists, type_known, is_area_known, is_based_known, is_pointer_known}
 use Rattle.number_runs.specs.Numbers.{is_member_known, without_located, inside}
@@ -179,7 +179,7 @@ pub record KnowsNumbers (s : Scope) (k : Setting) : Type 0 where
   pub divisor : s.divides ≡ true → ZeroDivideComes k
   pub subscript : s.elements ≡ true → SubscriptComes k
   pub variables : (x : Spot) → is_known s x ≡ true → IsNumber k.block x
-  pub arrays : s.elements ≡ true → (x : Spot) → is_array_known s x ≡ true → IsArray k.block x (bounds_known s x)
+  pub arrays : s.elements ≡ true → (x : Spot) → is_array_known s x ≡ true → IsArray k.block x (grid_known s x)
   pub narrows : s.narrows ≡ true → (x : Spot) → is_narrow_known s x ≡ true → IsScalar k.block x (type_known s x)
   pub parameters : (x : Spot) → is_received s x ≡ true → IsParameterAround k.block x
   pub functions : (level n : ℕ) → s.is_function level n ≡ true → L.Does k 0 (call_number level n)
@@ -487,7 +487,7 @@ pub record IsReady (s : Scope) (valued : Bool) (k : Block) (labels : List Label)
   pub held : k.registers ≤ held_registers
   pub raises : KnowsRaises s k labels most
   pub variables : (x : Spot) → is_known s x ≡ true → IsNumber k x
-  pub arrays : s.elements ≡ true → (x : Spot) → is_array_known s x ≡ true → IsArray k x (bounds_known s x)
+  pub arrays : s.elements ≡ true → (x : Spot) → is_array_known s x ≡ true → IsArray k x (grid_known s x)
   pub narrows : s.narrows ≡ true → (x : Spot) → is_narrow_known s x ≡ true → IsScalar k x (type_known s x)
   pub parameters : (x : Spot) → is_received s x ≡ true → IsParameterAround k x
   pub codes : s.codes ≡ true → HasCode k

@@ -24,7 +24,7 @@ use Rattle.number_runs.specs.Knowledge.{AreAround, AreStanding, HasFrame, HasLis
 use Rattle.number_runs.specs.Knowledge.{KnowsNumbers, KnowsPuts, KnowsRaises, Standing, KnowsAroundTexts}
 use Rattle.number_runs.specs.Knowledge.{KnowsConstants, KnowsPlaced, MayBeSet, call_number, KnowsReads}
 use Rattle.text_runs.specs.Laws.{TextDoes}
-use Rattle.number_runs.specs.Numbers.{Scope, bounds_known, is_array_known, is_known, is_number, is_received, is_test}
+use Rattle.number_runs.specs.Numbers.{Scope, grid_known, is_array_known, is_known, is_number, is_received, is_test}
 use Rattle.number_runs.specs.Numbers.{is_narrow_known, number_needs, number_sets, test_needs, test_sets, type_known}
 use Rattle.number_runs.specs.Numbers.{is_text, text_needs, IsBare}
 use Rattle.scalar_runs.specs.Scalars.{IsScalar}
@@ -71,7 +71,7 @@ pub record BodiesDo : Type 0 where
   pub written :
       (s : Scope) (k : Block) (most : ℕ) → IsBegun k → IsUnraised k most →
       ((x : Spot) → is_known s x ≡ true → IsNumber k x) →
-      (s.elements ≡ true → (x : Spot) → is_array_known s x ≡ true → IsArray k x (bounds_known s x)) →
+      (s.elements ≡ true → (x : Spot) → is_array_known s x ≡ true → IsArray k x (grid_known s x)) →
       (s.narrows ≡ true → (x : Spot) → is_narrow_known s x ≡ true → IsScalar k x (type_known s x)) →
       ((x : Spot) → is_received s x ≡ true → IsParameterAround k x) → (s.codes ≡ true → HasCode k) →
       (s.texts ≡ true → KnowsConstants k) → KnowsLists k → (s.locates ≡ true → KnowsPlaced s k most) →

@@ -15,7 +15,7 @@ use Rattle.argument_runs.specs.Parameters.{parameter_of}
 use Rattle.array_runs.specs.Arrays.{Grid}
 use Rattle.area_runs.specs.Based.{based_of}
 use Rattle.number_runs.specs.Initial.{are_values}
-use Rattle.number_runs.specs.Arrays.{bounds_if, is_array_if}
+use Rattle.number_runs.specs.Arrays.{grid_if, is_array_if}
 use Rattle.number_runs.specs.Narrow.{is_bit, is_narrow_if, is_number_type, is_text_type, type_if}
 use Rattle.number_runs.specs.Based.{has_member_if, is_area_if, is_based_class, is_based_if, is_pointer_if}
 use Rattle.number_runs.specs.Based.{is_pointer_type, is_word_type}
@@ -241,8 +241,8 @@ is_passed s r = is_variable s r || is_given s r
 abbrev pub is_array_known : Scope → Spot → Bool
 is_array_known s x = list_any (is_place x) s.blocks && is_array_if (declared_variable s.program (variable_of x))
 
-abbrev pub bounds_known : Scope → Spot → Grid
-bounds_known s x = bounds_if (declared_variable s.program (variable_of x))
+abbrev pub grid_known : Scope → Spot → Grid
+grid_known s x = grid_if (declared_variable s.program (variable_of x))
 
 -- whose type passes a test, and which has so many dimensions
 abbrev pub is_grid_with : (Y.LeafType → Bool) → (count : ℕ) → Grid → Bool
@@ -255,7 +255,7 @@ is_element s test v part count =
     && (is_automatic v.class
     && ((part.first == 0)
     && ((part.count == 1)
-    && (is_array_known s (spot_of v) && is_grid_with test count (bounds_known s (spot_of v))))))
+    && (is_array_known s (spot_of v) && is_grid_with test count (grid_known s (spot_of v))))))
 
 -- a dimension of one, from 1
 abbrev pub is_asked : Scope → Y.Reference → (dimension : ℕ) → Bool
@@ -265,7 +265,7 @@ is_asked s (Y.Referring v Y.NotLocated part Y.NoNumber) dimension =
     && ((part.first == 0)
     && ((part.count == 1)
     && (is_array_known s (spot_of v)
-    && (nat_lt 0 dimension && nat_le dimension (length (bounds_known s (spot_of v)).bounds))))))
+    && (nat_lt 0 dimension && nat_le dimension (length (grid_known s (spot_of v)).bounds))))))
 is_asked s _ dimension = false
 
 -- ---- what pointers lead to

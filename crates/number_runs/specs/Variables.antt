@@ -27,7 +27,7 @@ use Rattle.variable_runs.specs.Lists.{AreAllBegun, newest_all}
 use Rattle.function_runs.specs.Functions.{function_block}
 use Rattle.array_runs.specs.Arrays.{Grid, IsArray}
 use Rattle.scalar_runs.specs.Scalars.{IsScalar}
-use Rattle.number_runs.specs.Arrays.{bounds_if, is_array, is_array_if}
+use Rattle.number_runs.specs.Arrays.{grid_if, is_array, is_array_if}
 use Rattle.number_runs.specs.Based.{is_area, is_based, is_pointer}
 use Rattle.number_runs.specs.Narrow.{is_narrow, is_narrow_if, type_if}
 use Rattle.number_runs.specs.Numbers.{is_parameter, is_plain, is_plain_if}
@@ -140,8 +140,8 @@ pub record IsOwnNarrow (c : Callee) (x : Spot) : Type 0 where
 abbrev pub own_type : Callee → Spot → Y.LeafType
 own_type c x = type_if (declared_variable c.environment.program (variable_of x))
 
-abbrev pub own_bounds : Callee → Spot → Grid
-own_bounds c x = bounds_if (declared_variable c.environment.program (variable_of x))
+abbrev pub own_grid : Callee → Spot → Grid
+own_grid c x = grid_if (declared_variable c.environment.program (variable_of x))
 
 pub record WordsMade : Type 0 where
   -- the procedure makes them, if they have room
@@ -166,12 +166,12 @@ pub record WordsMade : Type 0 where
   pub own_array :
       (w : Surroundings) (code : List Instr) (c : Callee) (p q : Point) (numbers : ℕ → ℕ) (x : Spot) →
       HasParts w.parts → HasWords w code c q numbers × AreAllBegun w code c p numbers (words_in c.environment) →
-      IsOwnArray c x → IsBegun (block_at w code c p numbers) → IsArray (block_at w code c p numbers) x (own_bounds c x)
+      IsOwnArray c x → IsBegun (block_at w code c p numbers) → IsArray (block_at w code c p numbers) x (own_grid c x)
   pub function_array :
       (w : Surroundings) (code : List Instr) (c : Callee) (p q : Point) (numbers : ℕ → ℕ) (x : Spot) →
       HasParts w.parts → HasWords w code c q numbers × AreAllBegun w code c p numbers (words_in c.environment) →
       IsOwnArray c x →
-      IsBegun (function_block w code c p numbers) → IsArray (function_block w code c p numbers) x (own_bounds c x)
+      IsBegun (function_block w code c p numbers) → IsArray (function_block w code c p numbers) x (own_grid c x)
   -- or a scalar of fewer bits
   pub own_narrow :
       (w : Surroundings) (code : List Instr) (c : Callee) (p q : Point) (numbers : ℕ → ℕ) (x : Spot) →

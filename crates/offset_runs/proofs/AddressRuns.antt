@@ -1,6 +1,5 @@
 -- Services 9 and 14 in a run: the name of what a pointer variable points to comes into words of the frame, and its
--- offset
--- in an area into a0.
+-- offset in an area into a0.
 use Rattle.std.proofs.Common.{◌≡◌, ℕ, ◌+◌, ◌-◌, ◌^◌, ◌<◌, ◌≤◌, List, [], ◌∷◌, ◌++◌, None, Some, Option}
 use Rattle.std.proofs.Common.{refl, sym, ap, ◌∙◌, subst, arith}
 use Rattle.std.specs.Prelude.{false, pos, ◌==◌}

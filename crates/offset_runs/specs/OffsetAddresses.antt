@@ -1,6 +1,5 @@
 -- The offset in an area of a structure that a pointer variable points to, by the built-ins ADDR and OFFSET.
--- (X3.53-1976,
--- chapter 9, OFFSET.)
+-- (X3.53-1976, chapter 9, OFFSET.)
 use Rattle.std.specs.Prelude.{ℕ, ◌≤◌, ◌≡◌, List, None, length}
 use Rattle.pli_typing.specs.TypedTree as Y
 use Rattle.expression_runs.specs.Values.{Setting}

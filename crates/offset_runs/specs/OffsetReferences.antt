@@ -1,6 +1,5 @@
 -- Members of a BASED structure by way of an offset, which is converted to a pointer into an area. (X3.53-1976,
--- chapter 7,
--- storage; chapter 9, POINTER.)
+-- chapter 7, storage; chapter 9, POINTER.)
 use Rattle.std.specs.Prelude.{ℕ, ◌^◌, ◌<◌, ◌≤◌, ◌≡◌, List, [], None, Some}
 use Rattle.pli_typing.specs.TypedTree as Y
 use Rattle.pli_meaning.specs.DeclaredShapes.{declared_variable}

@@ -1,6 +1,6 @@
 -- FIXED BINARY(31) parameters of a block and of the blocks around it. A procedure keeps where its list stands in its
--- own
--- frame, which the code of what it declares finds by the display; the list stands in words of the frame right below.
+-- own frame, which the code of what it declares finds by the display; the list stands in words of the frame right
+-- below.
 use Rattle.std.specs.Prelude.{ℕ, ◌+◌, ◌*◌, ◌^◌, ◌<◌, ◌≤◌, ◌≡◌, ◌⊎◌, List, [], ◌∷◌, Option, Some}
 use Rattle.pli_typing.specs.TypedTree as Y
 use Rattle.pli_meaning.specs.Control.{Label}

@@ -36,7 +36,7 @@ use Rattle.variable_runs.specs.Lists.{all_made, behind_made, layer_after, layer_
 use Rattle.block_headlines.proofs.Constants.{called_of_program}
 use Rattle.nested_calls.specs.Nested.{IsNested, parent_at}
 use Rattle.number_runs.specs.Knowledge.{IsHome}
-use Rattle.number_runs.specs.Numbers.{bounds_known, type_known}
+use Rattle.number_runs.specs.Numbers.{grid_known, type_known}
 use Rattle.number_runs.specs.Variables.{words_in}
 use Rattle.number_runs.proofs.Words.{room_behind}
 use Rattle.number_headlines.proofs.FullWords.{words_at, words_count, words_lower}
@@ -284,7 +284,7 @@ called_entered once {program} m {h} {more} {b} {part} {out} {os} {p} {numbers} o
         inside = omega arith;
         variables = λ x is. number_leaving inner os' x (each_number m o i call pass bare x is);
         arrays = λ x is.
-            array_leaving inner os' x (bounds_known (called_scope m i) x) (each_array m o i call pass bare x is);
+            array_leaving inner os' x (grid_known (called_scope m i) x) (each_array m o i call pass bare x is);
         narrows = λ x is.
             narrow_leaving inner os' x (type_known (called_scope m i) x) (each_narrow m o i call pass bare x is);
         forced = λ d. in_force_below (below d);

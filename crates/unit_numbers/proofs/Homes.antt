@@ -21,7 +21,7 @@ use Rattle.array_runs.specs.Arrays.{IsArray}
 use Rattle.scalar_runs.specs.Scalars.{IsScalar}
 use Rattle.counter_runs.proofs.Known.{number_told}
 use Rattle.counter_runs.proofs.Words.{begun_telling}
-use Rattle.number_runs.specs.Numbers.{bounds_known, is_array_known, is_known, is_narrow_known, type_known}
+use Rattle.number_runs.specs.Numbers.{grid_known, is_array_known, is_known, is_narrow_known, type_known}
 use Rattle.number_runs.proofs.Arrays.{array_told}
 use Rattle.number_runs.proofs.Narrow.{narrow_told}
 use Rattle.number_runs.specs.Statements.{statements_set}
@@ -62,7 +62,7 @@ pub record IsHome' {program : Y.Program} (m : Main program) (h : Home) : Type 0 
   pub numbers : (x : Spot) → is_known (main_scope m false) x ≡ true → IsNumber (home_block m h) x
   pub arrays :
       (x : Spot) → is_array_known (main_scope m false) x ≡ true →
-      IsArray (home_block m h) x (bounds_known (main_scope m false) x)
+      IsArray (home_block m h) x (grid_known (main_scope m false) x)
   pub narrows :
       (x : Spot) → is_narrow_known (main_scope m false) x ≡ true →
       IsScalar (home_block m h) x (type_known (main_scope m false) x)
@@ -173,7 +173,7 @@ home_is {program} m input acts past few b known =
         known = known;
         begun = past_begun k0 (ons_of m) past (ons_placed m) known b;
         numbers = λ x is. past_number k0 past x refl (main_number m input acts x (own_known m input acts x is) b);
-        arrays = λ x is. past_array k0 past x (bounds_known (main_scope m false) x) refl
+        arrays = λ x is. past_array k0 past x (grid_known (main_scope m false) x) refl
             (main_array m input acts x is b);
         narrows = λ x is.
             past_narrow k0 past x (type_known (main_scope m false) x) refl (main_narrow m input acts x is b);
@@ -204,7 +204,7 @@ home_told {program} {m} {h} is waits =
       known = is.known;
       begun = begun_telling k φ φs waits free.newest is.begun;
       numbers = λ x h. number_told k φ φs waits free.newest x (is.numbers x h);
-      arrays = λ x h. array_told k φ φs waits free.newest x (bounds_known (main_scope m false) x) (is.arrays x h);
+      arrays = λ x h. array_told k φ φs waits free.newest x (grid_known (main_scope m false) x) (is.arrays x h);
       narrows = λ x h. narrow_told k φ φs waits free.newest x (type_known (main_scope m false) x) (is.narrows x h);
       free = record {
         layer = with_waits waits φ;

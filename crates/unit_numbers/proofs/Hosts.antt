@@ -24,7 +24,7 @@ use Rattle.array_runs.specs.Arrays.{IsArray}
 use Rattle.scalar_runs.specs.Scalars.{IsScalar}
 use Rattle.nested_calls.specs.Nested.{IsNested, parent_at}
 use Rattle.number_runs.specs.Knowledge.{Includes}
-use Rattle.number_runs.specs.Numbers.{Scope, bounds_known, is_array_known, is_known, is_narrow_known, type_known}
+use Rattle.number_runs.specs.Numbers.{Scope, grid_known, is_array_known, is_known, is_narrow_known, type_known}
 use Rattle.unit_runs.specs.Establishing.{OnUnit, unit_of}
 use Rattle.unit_numbers.specs.Calls.{has_jumps, scope_in}
 use Rattle.unit_numbers.proofs.Established.{IsOnOf}
@@ -55,7 +55,7 @@ pub record HasNames {program : Y.Program} (m : Main program) (head : Y.BlockHead
   pub oldest : parent_at k 0 ≡ 1
   pub variables : (x : Spot) → is_known (host_scope m head) x ≡ true → IsNumber k x
   pub arrays :
-      (x : Spot) → is_array_known (host_scope m head) x ≡ true → IsArray k x (bounds_known (host_scope m head) x)
+      (x : Spot) → is_array_known (host_scope m head) x ≡ true → IsArray k x (grid_known (host_scope m head) x)
   pub narrows :
       (x : Spot) → is_narrow_known (host_scope m head) x ≡ true → IsScalar k x (type_known (host_scope m head) x)
 

@@ -40,7 +40,7 @@ use Rattle.array_runs.specs.Arrays.{IsArray}
 use Rattle.scalar_runs.specs.Scalars.{IsScalar}
 use Rattle.number_runs.specs.Arrays.{is_array_if}
 use Rattle.number_runs.specs.Narrow.{is_narrow_if}
-use Rattle.number_runs.specs.Numbers.{Scope, bounds_known, has_none, is_array_known, is_known, is_place, is_plain_if}
+use Rattle.number_runs.specs.Numbers.{Scope, grid_known, has_none, is_array_known, is_known, is_place, is_plain_if}
 use Rattle.number_runs.specs.Numbers.{is_narrow_known, type_known}
 use Rattle.number_runs.specs.Statements.{statements_need, statements_set}
 use Rattle.number_runs.specs.Variables.{HasWords, HaveRoom, IsOwnArray, IsOwnNarrow, IsOwnWord, bytes_of, words_in}
@@ -357,7 +357,7 @@ main_number {program} m input acts x own b =
 pub own_main_array :
     {program : Y.Program} (m : Main program) (input : List ℕ) (acts : ℕ) (x : Spot) →
     IsOwnArray (main_for m input acts) x → IsBegun (block_for m input acts) →
-    IsArray (block_for m input acts) x (bounds_known (main_scope m false) x)
+    IsArray (block_for m input acts) x (grid_known (main_scope m false) x)
 own_main_array {program} m input acts x own b =
     own_array (surroundings_for m input acts) (linked_code (code_for program)) (main_for m input acts)
     (start_for m input acts) (start_for m input acts) no_numbers x
@@ -366,7 +366,7 @@ own_main_array {program} m input acts x own b =
 pub main_array :
     {program : Y.Program} (m : Main program) (input : List ℕ) (acts : ℕ) (x : Spot) →
     is_array_known (main_scope m false) x ≡ true → IsBegun (block_for m input acts) →
-    IsArray (block_for m input acts) x (bounds_known (main_scope m false) x)
+    IsArray (block_for m input acts) x (grid_known (main_scope m false) x)
 main_array m input acts x h b = own_main_array m input acts x (own_array_known m input acts x h) b
 
 -- and each scalar of fewer bits one of it

@@ -32,7 +32,7 @@ use Rattle.nested_calls.specs.Nested.{IsNested, parent_at}
 use Rattle.nested_calls.specs.NestedVariables.{IsInside}
 use Rattle.nested_calls.proofs.NestedVariables.{function_known, function_nested, function_number, procedure_known}
 use Rattle.nested_calls.proofs.NestedVariables.{procedure_nested, procedure_number}
-use Rattle.number_runs.specs.Arrays.{bounds_if, is_array_if}
+use Rattle.number_runs.specs.Arrays.{grid_if, is_array_if}
 use Rattle.number_runs.specs.Numbers.{Scope, is_array_known, is_known, is_place, is_plain_if, is_narrow_known}
 use Rattle.number_runs.specs.Variables.{HasWords, HaveRoom, bytes_of, words_in}
 use Rattle.number_runs.proofs.Words.{all_words, function_array, function_word, own_array, own_word, room_fewer}
@@ -340,7 +340,7 @@ own_array_by :
     is_array_if (declared_variable program (variable_of x)) ≡ true →
     IsArray (bare_block m h v more
     (entered_at i (block_of m h out os) call p numbers)) x
-    (bounds_if (declared_variable program (variable_of x)))
+    (grid_if (declared_variable program (variable_of x)))
 own_array_by false {program} m {h} {more} {part = part} {out = out} {os = os} {p = p} {numbers = numbers} o i call pass
     b' x is
     array =
@@ -513,7 +513,7 @@ pub each_array :
     is_array_known (called_scope m i) x ≡ true →
     IsArray (bare_block m h v more
     (entered_at i (block_of m h out os) call p numbers)) x
-    (bounds_if (declared_variable program (variable_of x)))
+    (grid_if (declared_variable program (variable_of x)))
 each_array {program} m {h} {more} {b} {part} {out} {os} {p} {numbers} o {v} {level} i call pass b' x named =
     by (stands_at i x parts.0).at
   where
@@ -530,9 +530,9 @@ each_array {program} m {h} {more} {b} {part} {out} {os} {p} {numbers} o {v} {lev
         ⊎ ((x.block ≡ i.head.number) × (x.level ≡ i.head.level)) →
         IsArray (bare_block m h v more
         (entered_at i (block_of m h out os) call p numbers)) x
-        (bounds_if (declared_variable program (variable_of x)))
+        (grid_if (declared_variable program (variable_of x)))
     by (inl low) =
-        outer_array_by v m o i call pass b' x (bounds_if (declared_variable program (variable_of x))) low.0
+        outer_array_by v m o i call pass b' x (grid_if (declared_variable program (variable_of x))) low.0
         (o.at.arrays x
         (and_from (list_any (is_place x) (places_to (environment_for program part.caller) part.caller.level)) array
         low.1

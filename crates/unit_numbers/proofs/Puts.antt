@@ -25,7 +25,7 @@ use Rattle.edit_runs.proofs.Places.{begun_placed, number_placed}
 use Rattle.block_headlines.specs.Constants.{IsOf}
 use Rattle.block_headlines.proofs.Constants.{main_of_program}
 use Rattle.number_runs.specs.Knowledge.{KnowsLists, KnowsPuts}
-use Rattle.number_runs.specs.Numbers.{Scope, bounds_known, is_array_known, is_known, is_narrow_known, is_received}
+use Rattle.number_runs.specs.Numbers.{Scope, grid_known, is_array_known, is_known, is_narrow_known, is_received}
 use Rattle.number_runs.specs.Numbers.{type_known}
 use Rattle.number_runs.proofs.Puts.{narrow_placed}
 use Rattle.number_runs.proofs.Received.{parameter_placed}
@@ -88,7 +88,7 @@ pub record IsSettled (s : Scope) (k : Block) (most : ℕ) : Type 0 where
   pub acts : k.call.surroundings.acts + 1 < 2 ^ 64
   pub few : 18 < most
   pub variables : (x : Spot) → is_known s x ≡ true → IsNumber k x
-  pub arrays : s.elements ≡ true → (x : Spot) → is_array_known s x ≡ true → IsArray k x (bounds_known s x)
+  pub arrays : s.elements ≡ true → (x : Spot) → is_array_known s x ≡ true → IsArray k x (grid_known s x)
   pub narrows : s.narrows ≡ true → (x : Spot) → is_narrow_known s x ≡ true → IsScalar k x (type_known s x)
   pub parameters : (x : Spot) → is_received s x ≡ true → IsParameterAround k x
   pub code : HasCode k
@@ -129,7 +129,7 @@ settled_writes s k most h =
               most = h.few;
             });
             variables = λ x is. number_placed k place x (h.variables x is);
-            arrays = λ raises x is. array_placed k place x (bounds_known s x) (h.arrays raises x is);
+            arrays = λ raises x is. array_placed k place x (grid_known s x) (h.arrays raises x is);
             narrows = λ may x is. narrow_placed k place x (type_known s x) (h.narrows may x is);
             parameters = λ x is. parameter_placed k place x (h.parameters x is);
             texts = λ may. absurd (cc (sym h.wordless ∙ may));

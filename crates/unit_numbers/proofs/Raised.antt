@@ -37,7 +37,7 @@ use Rattle.array_runs.proofs.Outer.{outer_array}
 use Rattle.block_headlines.proofs.Constants.{called_of_program}
 use Rattle.number_runs.specs.Arrays.{is_array_if}
 use Rattle.number_runs.specs.Narrow.{is_narrow_if}
-use Rattle.number_runs.specs.Numbers.{bounds_known, is_array_known, is_known, is_narrow_known, is_place, is_plain_if}
+use Rattle.number_runs.specs.Numbers.{grid_known, is_array_known, is_known, is_narrow_known, is_place, is_plain_if}
 use Rattle.number_runs.specs.Numbers.{type_known}
 use Rattle.number_runs.proofs.Narrow.{outer_narrow}
 use Rattle.number_runs.specs.Statements.{statements_need, statements_set}
@@ -254,7 +254,7 @@ own_names {program} {m} {h} {more} {b} {c} {o} {os} {words} {labels} {line} n {e
           over_number {k = k} {inner = u} x over a.nested a.begun among a.inside (low_spot m c.caller x is)
           (sym a.source) (sym a.parts) (a.variables x is);
       arrays = λ x is.
-          outer_array k u x (bounds_known s x)
+          outer_array k u x (grid_known s x)
           (λ d known. over_known {k = k} {inner = u} x d over a.nested a.begun among a.inside
           (low_array m c.caller x is) (sym a.source) (sym a.parts) known) (a.arrays x is);
       narrows = λ x is.
@@ -384,7 +384,7 @@ lower_names {program} {m} {h} {more} {b} {c} {o} {os} {words} {labels} {line} n 
           (omega (arith, low, level)) (n.is.names.variables spot is);
       arrays = λ spot is.
           let low = low_array m g.head spot is in
-          hosts_known.array k x more e r g.block g.point g.numbers count spot (bounds_known s spot) z
+          hosts_known.array k x more e r g.block g.point g.numbers count spot (grid_known s spot) z
           (omega (arith, low, level)) (n.is.names.arrays spot is);
       narrows = λ spot is.
           let low = low_narrow m g.head spot is in

@@ -43,7 +43,7 @@ use Rattle.argument_runs.specs.Lists.{with_list}
 use Rattle.block_headlines.specs.Constants.{IsOf}
 use Rattle.nested_calls.specs.Nested.{IsNested, parent_at}
 use Rattle.number_runs.specs.Knowledge.{Includes, IsHome}
-use Rattle.number_runs.specs.Numbers.{Scope, bounds_known, is_array_known, is_known, is_narrow_known, type_known}
+use Rattle.number_runs.specs.Numbers.{Scope, grid_known, is_array_known, is_known, is_narrow_known, type_known}
 use Rattle.number_runs.proofs.Arrays.{array_told}
 use Rattle.number_runs.proofs.Narrow.{narrow_told}
 use Rattle.number_runs.specs.Statements.{are_statements, statements_need, statements_set}
@@ -84,7 +84,7 @@ pub record IsAt {program : Y.Program} (m : Main program) (h : Home) (more blocks
     pub variables : (x : Spot) → is_known (scope_of m c) x ≡ true → IsNumber (block_of m h o os) x
     pub arrays :
         (x : Spot) → is_array_known (scope_of m c) x ≡ true →
-        IsArray (block_of m h o os) x (bounds_known (scope_of m c) x)
+        IsArray (block_of m h o os) x (grid_known (scope_of m c) x)
     pub narrows :
         (x : Spot) → is_narrow_known (scope_of m c) x ≡ true →
         IsScalar (block_of m h o os) x (type_known (scope_of m c) x)
@@ -221,7 +221,7 @@ at_told {program} {m} {h} {more} {blocks} {c} {o} {os} a waits =
       nested = record { own = a.nested.own; few = a.nested.few; some = a.nested.some; same = a.nested.same };
       inside = a.inside;
       variables = λ x is. number_told k φ φs waits free.newest x (a.variables x is);
-      arrays = λ x is. array_told k φ φs waits free.newest x (bounds_known (scope_of m c) x) (a.arrays x is);
+      arrays = λ x is. array_told k φ φs waits free.newest x (grid_known (scope_of m c) x) (a.arrays x is);
       narrows = λ x is. narrow_told k φ φs waits free.newest x (type_known (scope_of m c) x) (a.narrows x is);
       forced = λ d.
           force_with k (record o.first.control { layers = with_waits waits φ ∷ φs })
@@ -270,7 +270,7 @@ at_placed {program} {m} {h} {more} {blocks} {c} {o} {os} a still place =
       nested = record { own = a.nested.own; few = a.nested.few; some = a.nested.some; same = a.nested.same };
       inside = a.inside;
       variables = λ x is. number_placed k place x (a.variables x is);
-      arrays = λ x is. array_placed k place x (bounds_known (scope_of m c) x) (a.arrays x is);
+      arrays = λ x is. array_placed k place x (grid_known (scope_of m c) x) (a.arrays x is);
       narrows = λ x is. narrow_placed k place x (type_known (scope_of m c) x) (a.narrows x is);
       forced = λ d.
           force_with k (record o.first.control { edits = place ∷ o.first.control.edits }) (λ n. refl)
@@ -318,7 +318,7 @@ at_waited {program} {m} {h} {more} {blocks} {c} {o} {os} a still entries =
       nested = record { own = a.nested.own; few = a.nested.few; some = a.nested.some; same = a.nested.same };
       inside = a.inside;
       variables = λ x is. number_waits k entries x (a.variables x is);
-      arrays = λ x is. array_waits k entries x (bounds_known (scope_of m c) x) (a.arrays x is);
+      arrays = λ x is. array_waits k entries x (grid_known (scope_of m c) x) (a.arrays x is);
       narrows = λ x is. narrow_waits k entries x (type_known (scope_of m c) x) (a.narrows x is);
       forced = λ d.
           force_with k (record o.first.control { entries = entries ++ o.first.control.entries }) (λ n. refl)

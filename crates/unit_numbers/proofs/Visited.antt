@@ -30,7 +30,7 @@ use Rattle.program_runs.specs.Statements.{Block, IsBegun, IsOwn, Outer, own_heig
 use Rattle.program_runs.proofs.NewestBlocks.{newest_ancestor}
 use Rattle.nested_calls.specs.Nested.{IsNested, parent_at}
 use Rattle.number_runs.specs.Knowledge.{GoesThrough, IsHome}
-use Rattle.number_runs.specs.Numbers.{bounds_known, type_known}
+use Rattle.number_runs.specs.Numbers.{grid_known, type_known}
 use Rattle.number_runs.specs.Statements.{statements_set}
 use Rattle.number_runs.specs.Variables.{AreTabled}
 use Rattle.unit_runs.specs.Establishing as T
@@ -397,7 +397,7 @@ past_at {program} {m} {h} {more} {blocks} {c} {o} {os} e unit v writes past know
         nested = past_nested k (ons_in c o) past placed known a.begun a.nested;
         inside = a.inside;
         variables = λ x is. past_number k past x refl (a.variables x is);
-        arrays = λ x is. past_array k past x (bounds_known (scope_of m c) x) refl (a.arrays x is);
+        arrays = λ x is. past_array k past x (grid_known (scope_of m c) x) refl (a.arrays x is);
         narrows = λ x is. past_narrow k past x (type_known (scope_of m c) x) refl (a.narrows x is);
         forced = λ d. past_force a unit v past known d;
         settled = λ jumped outer. absurd (omega (arith, inner, outer));
